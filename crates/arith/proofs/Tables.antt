@@ -1,0 +1,111 @@
+-- Reading what is tabulated; tests over all numbers below a bound; sums over selected places.
+use Prim.Native.Nat.{ℕ, zero, suc, _+_, _*_, _≤_, _<_}
+use mathlib.Core.Bool.{Bool, true, false, not, _&&_, _||_, cond, false≢true}
+use mathlib.Core.Logic.{_≢_, _⊎_, inl, inr}
+use mathlib.Core.Path.{_≡_, refl, sym, ap, ap₂, _∙_, subst}
+use mathlib.Core.List.{List, [], _∷_, _++_}
+use native.Mathlib.Omega.{arith}
+use native.Mathlib.Decide.{ℕ-discrete}
+use native.Mathlib.Nat.{add-zero, add-suc, suc-add, zero-add}
+use lib.ListN.{length, getD, length-append, List·getD-append}
+use lib.Seq.{getD-at}
+use lib.IntN.{ℤ, pos, _+ℤ_, +ℤ-idr}
+use Rattle.arith.specs.Table.{fill, tabulate, anyBelow, allBelow, countBelow, selectBelow, sum}
+use Rattle.arith.proofs.Flags.{split, and-left, and-right, and-intro, or-cases, or-left, or-right}
+use Rattle.arith.proofs.Counting.{select-yes, select-no, select-length, count-yes, count-no}
+use Rattle.arith.proofs.Sums.{sum-cong}
+
+module _ {A : Type 0} where
+  fill-length : (n s : ℕ) (f : ℕ → A) → length (fill n s f) ≡ n
+  unfolding fill
+  fill-length zero s f = refl
+  fill-length (suc n) s f = ap suc (fill-length n (suc s) f)
+
+  fill-at : (n s : ℕ) (f : ℕ → A) (k : ℕ) (d : A) → k < n → getD (fill n s f) k d ≡ f (s + k)
+  unfolding fill
+  fill-at zero s f k d h = absurd (omega arith)
+  fill-at (suc n) s f zero d h = ap f (sym (add-zero s))
+  fill-at (suc n) s f (suc k) d h = fill-at n (suc s) f k d (omega arith) ∙ ap f (omega arith)
+
+  pub tabulate-length : (n : ℕ) (f : ℕ → A) → length (tabulate n f) ≡ n
+  unfolding tabulate
+  tabulate-length n f = fill-length n 0 f
+
+  pub tabulate-at : (n : ℕ) (f : ℕ → A) (k : ℕ) (d : A) → k < n → getD (tabulate n f) k d ≡ f k
+  unfolding tabulate
+  tabulate-at n f k d h = fill-at n 0 f k d h ∙ ap f (zero-add k)
+
+-- ---- a test over all numbers below n
+
+pub all-at : (n : ℕ) (p : ℕ → Bool) → allBelow n p ≡ true → (k : ℕ) → k < n → p k ≡ true
+unfolding allBelow
+all-at zero p e k h = absurd (omega arith)
+all-at (suc n) p e k h = go (ℕ-discrete k n) (λ l. all-at n p (and-right (p n) (allBelow n p) e) k l)
+  where
+    go : Dec (k ≡ n) → (k < n → p k ≡ true) → p k ≡ true
+    go (yes q) r = ap p q ∙ and-left (p n) (allBelow n p) e
+    go (no d) r = r (omega arith)
+
+pub all-intro : (n : ℕ) (p : ℕ → Bool) → ((k : ℕ) → k < n → p k ≡ true) → allBelow n p ≡ true
+unfolding allBelow
+all-intro zero p h = refl
+all-intro (suc n) p h = and-intro (h n (omega arith)) (all-intro n p (λ k l. h k (omega arith)))
+
+pub record Found (n : ℕ) (p : ℕ → Bool) : Type 0 where
+  pub at : ℕ
+  pub below : at < n
+  pub passes : p at ≡ true
+
+pub any-found : (n : ℕ) (p : ℕ → Bool) → anyBelow n p ≡ true → Found n p
+unfolding anyBelow
+any-found zero p e = absurd (false≢true e)
+any-found (suc n) p e = go (or-cases (p n) (anyBelow n p) e) (λ q. any-found n p q)
+  where
+    go : (p n ≡ true) ⊎ (anyBelow n p ≡ true) → (anyBelow n p ≡ true → Found n p) → Found (suc n) p
+    go (inl q) r = record { at = n; below = omega arith; passes = q }
+    go (inr q) r = record { at = r q .at; below = omega (arith, r q .below); passes = r q .passes }
+
+pub any-intro : (n : ℕ) (p : ℕ → Bool) (k : ℕ) → k < n → p k ≡ true → anyBelow n p ≡ true
+unfolding anyBelow
+any-intro zero p k h e = absurd (omega arith)
+any-intro (suc n) p k h e = go (ℕ-discrete k n) (λ l. any-intro n p k l e)
+  where
+    go : Dec (k ≡ n) → (k < n → anyBelow n p ≡ true) → (p n || anyBelow n p) ≡ true
+    go (yes q) r = or-left (p n) (anyBelow n p) (ap p (sym q) ∙ e)
+    go (no d) r = or-right (p n) (anyBelow n p) (r (omega arith))
+
+-- one of the numbers below m has A, or all have B
+pub find : (m : ℕ) (A B : ℕ → Type 0) → ((k : ℕ) → k < m → A k ⊎ B k) → ((k : ℕ) × (k < m) × A k) ⊎ ((k : ℕ) → k < m → B k)
+find zero A B h = inr (λ k l. absurd (omega arith))
+find (suc m) A B h = go (h m (omega arith)) (find m A B (λ k l. h k (omega arith)))
+  where
+    go : A m ⊎ B m → ((k : ℕ) × (k < m) × A k) ⊎ ((k : ℕ) → k < m → B k) → ((k : ℕ) × (k < suc m) × A k) ⊎ ((k : ℕ) → k < suc m → B k)
+    go (inl a) r = inl (m, omega arith, a)
+    go (inr b) (inl r) = inl (r .0, omega (arith, r .1), r .2)
+    go (inr b) (inr r) = inr (λ k l. by k l (ℕ-discrete k m))
+      where
+        by : (k : ℕ) → k < suc m → Dec (k ≡ m) → B k
+        by k l (yes e) = subst B (sym e) b
+        by k l (no d) = r k (omega arith)
+
+-- ---- a sum over the places that pass a test
+
+pub sum-select : (n : ℕ) (p : ℕ → Bool) (g : ℕ → ℤ) →
+    sum (countBelow n p) (λ r. g (getD (selectBelow n p) r 0)) ≡ sum n (λ k. cond (p k) (g k) (pos 0))
+unfolding sum countBelow
+sum-select zero p g = refl
+sum-select (suc n) p g = go (sum-select n p g) (split (p n))
+  where
+    go : sum (countBelow n p) (λ r. g (getD (selectBelow n p) r 0)) ≡ sum n (λ k. cond (p k) (g k) (pos 0)) →
+        (p n ≡ true) ⊎ (p n ≡ false) →
+        sum (countBelow (suc n) p) (λ r. g (getD (selectBelow (suc n) p) r 0)) ≡ sum n (λ k. cond (p k) (g k) (pos 0)) +ℤ cond (p n) (g n) (pos 0)
+    go ih (inl e) =
+        ap (λ m. sum m (λ r. g (getD (selectBelow (suc n) p) r 0))) (count-yes n p e) ∙
+        ap₂ _+ℤ_
+        (sum-cong (countBelow n p) (λ r. g (getD (selectBelow (suc n) p) r 0)) (λ r. g (getD (selectBelow n p) r 0))
+        (λ r l. rw (select-yes n p e, List·getD-append (selectBelow n p) (n ∷ []) 0 r (omega (arith, select-length n p)))) ∙ ih)
+        (rw (select-yes n p e, getD-at (selectBelow n p) n [] 0 (countBelow n p) (select-length n p), e))
+    go ih (inr e) =
+        ap (λ m. sum m (λ r. g (getD (selectBelow (suc n) p) r 0))) (count-no n p e) ∙
+        (sum-cong (countBelow n p) (λ r. g (getD (selectBelow (suc n) p) r 0)) (λ r. g (getD (selectBelow n p) r 0))
+        (λ r l. rw (select-no n p e)) ∙ (ih ∙ rw e (sym (+ℤ-idr _))))
