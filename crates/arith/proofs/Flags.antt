@@ -5,6 +5,7 @@ use mathlib.Core.Logic.{_≢_, _⊎_, inl, inr}
 use mathlib.Core.Path.{_≡_, refl, sym, _∙_, subst}
 use mathlib.Core.List.{List, [], _∷_}
 use native.Mathlib.Omega.{arith}
+use borrow.Author.Tests.{not-true, not-false}
 use lib.Dec.{T}
 use lib.ListN.{length, getD}
 
@@ -14,6 +15,13 @@ split false = inr refl
 
 pub clash : {A : Type 0} {b : Bool} → b ≡ true → b ≡ false → A
 clash h k = absurd (true≢false (sym h ∙ k))
+
+-- what `if !test(..)` tells of what the test equals
+pub test-failed : {r p : Bool} → r ≡ p → not r ≡ true → p ≡ false
+test-failed {r} e t = sym e ∙ not-true r t
+
+pub test-passed : {r p : Bool} → r ≡ p → not r ≡ false → p ≡ true
+test-passed {r} e t = sym e ∙ not-false r t
 
 pub and-left : (a b : Bool) → (a && b) ≡ true → a ≡ true
 and-left true b e = refl
@@ -39,6 +47,10 @@ or-right false b e = e
 
 pub or-other : (a b : Bool) → a ≡ false → (a || b) ≡ true → b ≡ true
 or-other a b e h = sym (rw e) ∙ h
+
+pub passes : (b : Bool) → T b → b ≡ true
+passes true t = refl
+passes false t = absurd t
 
 pub holds : {b : Bool} → b ≡ true → T b
 holds e = subst T (sym e) tt

@@ -98,3 +98,7 @@ bounded (a ⊕ b) ρ σ w = omega (arith, abs-+ (eval ρ a) (eval ρ b), bounded
 bounded (a ⊖ b) ρ σ w = omega (arith, abs-- (eval ρ a) (eval ρ b), bounded a ρ σ w, bounded b ρ σ w)
 bounded (a ⊗ b) ρ σ w = le-trans (le-of-eq (abs-* (eval ρ a) (eval ρ b))) (mul-le-mul (bounded a ρ σ w) (bounded b ρ σ w))
 bounded (neg a) ρ σ w = le-trans (le-of-eq (abs-neg (eval ρ a))) (bounded a ρ σ w)
+
+-- with numerals for bounds the test is one computation
+pub fits : (e : Expr) (ρ : List ℤ) (σ : List ℕ) (n : ℕ) → size σ e ≤ n → Within ρ σ → natAbs (eval ρ e) ≤ n
+fits e ρ σ n t w = le-trans (bounded e ρ σ w) t

@@ -9,6 +9,7 @@ use mathlib.Core.Logic.{_⊎_, inl, inr, _↔_}
 use Prim.Native.Nat.{ℕ, zero, suc, _+_, _*_, _-_, _≤_, _<_}
 use native.Mathlib.Nat.{le-refl, mul-pos, mul-le-mul-left, mul-le-mul}
 use native.Mathlib.Omega.{arith}
+use borrow.Author.Tests.{leb-true, leb-false, le-ltb, lt-ltb}
 use lib.Dec.{T, leb, ltb, leb→le, le→leb, ltb→lt, lt→ltb, nleb→lt, nltb→le}
 use lib.IntN.{ℤ, pos, negsuc, negℤ, subℕ, _+ℤ_, _*ℤ_, _-ℤ_, negℤ-negℤ, *ℤ-comm, *ℤ-zero, zero-*ℤ}
 use Rattle.arith.proofs.Integers.{neg-*l, neg-*r, neg-*-neg, *-distl-sub, *-distr-sub}
@@ -212,6 +213,21 @@ total a b = by (leb (posPart a + negPart b) (posPart b + negPart a)) refl
     by : (t : Bool) → leb (posPart a + negPart b) (posPart b + negPart a) ≡ t → (a ≤ℤ b) ⊎ (b <ℤ a)
     by true e = inl (→le (leb→le (posPart a + negPart b) (posPart b + negPart a) (subst T (sym e) tt)))
     by false e = inr (omega (arithℤ, nleb→lt (posPart a + negPart b) (posPart b + negPart a) (subst (λ t. T (not t)) (sym e) tt)))
+
+-- the two tests are each other's negation
+pub leZ-not : (a b : ℤ) → ltZ b a ≡ not (leZ a b)
+leZ-not (pos a) (pos b) = go (leb a b) refl
+  where
+    go : (t : Bool) → leb a b ≡ t → ltb b a ≡ not t
+    go true e = le-ltb b a (leb-true a b e)
+    go false e = lt-ltb b a (leb-false a b e)
+leZ-not (pos a) (negsuc b) = refl
+leZ-not (negsuc a) (pos b) = refl
+leZ-not (negsuc a) (negsuc b) = go (leb b a) refl
+  where
+    go : (t : Bool) → leb b a ≡ t → ltb a b ≡ not t
+    go true e = le-ltb a b (leb-true b a e)
+    go false e = lt-ltb a b (leb-false b a e)
 
 pub trichotomy : (a b : ℤ) → (a <ℤ b) ⊎ ((a ≡ b) ⊎ (b <ℤ a))
 trichotomy a b = by (total a b) (total b a)

@@ -1,5 +1,4 @@
--- How far two integers are apart: `Within e a b` says |a − b| ≤ e, in the two parts of each, so that `omega` reads it. And an
--- integer by its sign and its size, as a float has it.
+-- How far two integers are apart: `Within e a b` says |a − b| ≤ e, in the two parts of each, so that `omega` reads it.
 use mathlib.Core.Path.{_≡_, refl, sym, ap, _∙_}
 use Prim.Native.Nat.{ℕ, zero, suc, _+_, _-_, _*_, _≤_, _<_}
 use native.Mathlib.Nat.{mul-zero, zero-mul}
@@ -9,6 +8,7 @@ use lib.IntN.{ℤ, pos, negsuc, negℤ, natAbs, _+ℤ_, _-ℤ_, _*ℤ_, negℤ-+
 use lib.Signed.{_<ℤ_}
 use lib.Ieee.{unlike}
 use Rattle.arith.proofs.Order.{posPart, negPart, arithℤ, parts-add, parts-sub, parts-neg}
+use Rattle.rounding.specs.Whole.{signed}
 use Rattle.arith.proofs.Magnitude.{abs-parts, abs-neg, parts-abs}
 
 pub record Within (e : ℕ) (a b : ℤ) : Type 0 where
@@ -38,11 +38,7 @@ within-above {e} {a} {b} h k = omega arithℤ
 pub within-below : {e : ℕ} {a b : ℤ} → Within e a b → a <ℤ negℤ (pos e) → b <ℤ pos 0
 within-below {e} {a} {b} h k = omega (arithℤ, parts-neg (pos e))
 
--- ---- an integer by its sign and its size; (true, 0) is 0 too
-
-abbrev pub signed : Bool → ℕ → ℤ
-signed false n = pos n
-signed true n = negℤ (pos n)
+-- ---- an integer by its sign and its size
 
 pub abs-signed : (s : Bool) (n : ℕ) → natAbs (signed s n) ≡ n
 abs-signed false n = refl

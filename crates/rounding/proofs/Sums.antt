@@ -11,8 +11,9 @@ use lib.Signed.{_<ℤ_}
 use lib.Ieee.{Float, fin, Format, binary64, add, mul, ofInt, lt}
 use lib.Ieee.Scale.{finite}
 use Rattle.arith.proofs.Magnitude.{abs-+, abs-*}
+use Rattle.rounding.specs.Whole.{IsInt}
 use Rattle.rounding.proofs.Distance.{Within, within-trans, within-add, within-abs, within-size, within-weaken, within-above, within-below}
-use Rattle.rounding.proofs.Whole.{IsInt, Digits, of-int, mul-int, add-int, lt-int, int-finite, power}
+use Rattle.rounding.proofs.Whole.{Digits, of-int, mul-int, add-int, lt-int, int-finite, power}
 
 -- x is a whole number within e of w, and at most B in size
 pub record Approx (x : Float) (e B : ℕ) (w : ℤ) : Type 0 where

@@ -13,14 +13,9 @@ use lib.Ieee.Fits.{down-pos}
 use lib.Ieee.Exact.{HasValue}
 use lib.Ieee.Back.{round-whole}
 use lib.Ieee.Scale.{round-same, finite}
+use Rattle.rounding.specs.Whole.{IsInt, signed}
 use Rattle.rounding.proofs.Nearest.{round-near}
-use Rattle.rounding.proofs.Distance.{Within, signed, abs-signed, within-signed, signed-mul, signed-add, signed-sub}
-
-pub record IsInt (x : Float) (z : ℤ) : Type 0 where
-  pub sign : Bool
-  pub size : ℕ
-  pub value : HasValue x sign size 1
-  pub exact : z ≡ signed sign size
+use Rattle.rounding.proofs.Distance.{Within, abs-signed, within-signed, signed-mul, signed-add, signed-sub}
 
 pub of-int : (f : Format) (z : ℤ) → natAbs z ≤ 2 ^ prec f → IsInt (ofInt f z) z
 unfolding ofInt
@@ -241,3 +236,6 @@ int-unique {x} i j = i .exact ∙ go x (i .sign) (j .sign) (i .size) (j .size) (
 -- ±2 ^ k, as a constant of the source is
 pub power : (s : Bool) (k : ℕ) → IsInt (fin s 1 (pos k)) (signed s (2 ^ k))
 power s k = record { sign = s; size = 2 ^ k; value = (refl, ap (λ (z : ℕ). z * 1) (one-mul (2 ^ k))); exact = refl }
+
+pub zero-int : IsInt (fin false 0 (pos 0)) (pos 0)
+zero-int = record { sign = false; size = 0; value = (refl, refl); exact = refl }
