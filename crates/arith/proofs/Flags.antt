@@ -48,6 +48,16 @@ or-right false b e = e
 pub or-other : (a b : Bool) → a ≡ false → (a || b) ≡ true → b ≡ true
 or-other a b e h = sym (rw e) ∙ h
 
+-- two tests that follow from each other
+pub bool-ext : (a b : Bool) → (a ≡ true → b ≡ true) → (b ≡ true → a ≡ true) → a ≡ b
+bool-ext true b f g = sym (f refl)
+bool-ext false true f g = g refl
+bool-ext false false f g = refl
+
+pub fails : (b : Bool) → (b ≡ true → ⊥) → b ≡ false
+fails true h = absurd (h refl)
+fails false h = refl
+
 pub passes : (b : Bool) → T b → b ≡ true
 passes true t = refl
 passes false t = absurd t
@@ -65,6 +75,15 @@ below-four P a b c d (suc (suc (suc (suc k)))) h = absurd (omega arith)
 pub below-five : (P : ℕ → Type 0) → P 0 → P 1 → P 2 → P 3 → P 4 → (k : ℕ) → k < 5 → P k
 below-five P a b c d e zero h = a
 below-five P a b c d e (suc k) h = below-four (λ k. P (suc k)) b c d e k (omega arith)
+
+pub below-six : (P : ℕ → Type 0) → P 0 → P 1 → P 2 → P 3 → P 4 → P 5 → (k : ℕ) → k < 6 → P k
+below-six P a b c d e f zero h = a
+below-six P a b c d e f (suc k) h = below-five (λ k. P (suc k)) b c d e f k (omega arith)
+
+pub below-eight : (P : ℕ → Type 0) → P 0 → P 1 → P 2 → P 3 → P 4 → P 5 → P 6 → P 7 → (k : ℕ) → k < 8 → P k
+below-eight P a b c d e f g h zero l = a
+below-eight P a b c d e f g h (suc zero) l = b
+below-eight P a b c d e f g h (suc (suc k)) l = below-six (λ k. P (suc (suc k))) c d e f g h k (omega arith)
 
 -- a list of flags holds only places below its length
 pub flag-below : (l : List Bool) (c : ℕ) → getD l c false ≡ true → c < length l

@@ -7,11 +7,14 @@ use mathlib.Core.Bool.{Bool, true, false}
 use mathlib.Core.List.{List, [], _∷_}
 use Prim.Native.Nat.{ℕ, suc, _+_, _*_, _^_, _≤_, _<_}
 use native.Mathlib.Nat.{le-trans, lt-of-le-of-lt}
+use native.Mathlib.Omega.{arith}
 use lib.Dec.{T, ltb, ltb→lt}
 use lib.IntN.{ℤ, pos, negsuc, negℤ, natAbs, _+ℤ_, _*ℤ_, _-ℤ_}
-use mir.Syntax.{Width}
-use mir.Val.{SFits, toZ, ofZ, hbits}
+use lib.Signed.{leZ, nonNeg}
+use mir.Syntax.{Width, w64}
+use mir.Val.{Fits, SFits, toZ, ofZ, hbits}
 use mir.ValLaws.{toZ-ofZ}
+use Rattle.arith.proofs.Flags.{clash}
 use Rattle.arith.proofs.Ring.{Expr, var, con, _⊕_, _⊖_, _⊗_, neg, at, eval, both, both-left, both-right}
 use Rattle.arith.proofs.Magnitude.{size, Within, bounded, mag-le}
 
@@ -88,3 +91,8 @@ module _ (w : Width) where
   -- what is read back at the end is the value
   pub exact : (e : Expr) (ρ : List ℤ) (σ : List ℕ) → T (room σ e) → Within ρ σ → back (mach ρ e) ≡ eval ρ e
   exact e ρ σ t h = again e ρ σ t h (computes e ρ σ t h)
+
+-- a signed number above 0 as an unsigned one
+pub positive-casts : (z : ℤ) → SFits w64 z → leZ z (pos 0) ≡ false → T (nonNeg z) × Fits w64 (natAbs z)
+positive-casts (pos n) h e = (tt, record { fits = omega (arith, h .sfits) })
+positive-casts (negsuc n) h e = clash refl e

@@ -12,6 +12,7 @@ use native.Mathlib.Omega.{arith}
 use borrow.Author.Tests.{leb-true, leb-false, le-ltb, lt-ltb}
 use lib.Dec.{T, leb, ltb, leb→le, le→leb, ltb→lt, lt→ltb, nleb→lt, nltb→le}
 use lib.IntN.{ℤ, pos, negsuc, negℤ, subℕ, _+ℤ_, _*ℤ_, _-ℤ_, negℤ-negℤ, *ℤ-comm, *ℤ-zero, zero-*ℤ}
+use Rattle.arith.proofs.Flags.{passes}
 use Rattle.arith.proofs.Integers.{neg-*l, neg-*r, neg-*-neg, *-distl-sub, *-distr-sub}
 use lib.Signed.{leZ, ltZ, _≤ℤ_, _<ℤ_, leZ-yes, ltZ-yes, ltZ-no}
 
@@ -228,6 +229,19 @@ leZ-not (negsuc a) (negsuc b) = go (leb b a) refl
     go : (t : Bool) → leb b a ≡ t → ltb a b ≡ not t
     go true e = le-ltb a b (leb-true b a e)
     go false e = lt-ltb a b (leb-false b a e)
+
+-- a test is the fact
+pub ltZ-true : (a b : ℤ) → ltZ a b ≡ true → a <ℤ b
+ltZ-true a b e = ltZ-yes (subst T (sym e) tt)
+
+pub leZ-true : (a b : ℤ) → leZ a b ≡ true → a ≤ℤ b
+leZ-true a b e = leZ-yes (subst T (sym e) tt)
+
+pub lt-ltZ : {a b : ℤ} → a <ℤ b → ltZ a b ≡ true
+lt-ltZ {a} {b} h = passes (ltZ a b) (h .lt)
+
+pub le-leZ : {a b : ℤ} → a ≤ℤ b → leZ a b ≡ true
+le-leZ {a} {b} h = passes (leZ a b) (h .le)
 
 pub trichotomy : (a b : ℤ) → (a <ℤ b) ⊎ ((a ≡ b) ⊎ (b <ℤ a))
 trichotomy a b = by (total a b) (total b a)

@@ -1,15 +1,16 @@
 -- Finite sums of integers.
-use Prim.Native.Nat.{ℕ, zero, suc, _+_, _*_, _≤_, _<_}
+use Prim.Native.Nat.{ℕ, zero, suc, _+_, _*_, _-_, _≤_, _<_}
 use mathlib.Core.Bool.{Bool, true, false, not, _&&_, cond, true≢false}
 use mathlib.Core.Logic.{_≢_, _⊎_, inl, inr}
-use mathlib.Core.Path.{_≡_, refl, sym, ap, ap₂, _∙_}
+use mathlib.Core.Path.{_≡_, refl, sym, ap, ap₂, _∙_, subst}
 use native.Mathlib.Omega.{arith}
 use native.Mathlib.Decide.{ℕ-discrete}
+use native.Mathlib.Numerals.{add-one}
 use native.Mathlib.Nat.{add-zero, add-suc}
 use lib.Dec.{eqb}
 use lib.Signed.{_≤ℤ_, ≤ℤ-refl}
 use Rattle.arith.proofs.Integers.{+-swap, *-distr}
-use Rattle.arith.proofs.Order.{+-nonneg}
+use Rattle.arith.proofs.Order.{+-nonneg, arithℤ, parts-add}
 use lib.IntN.{ℤ, pos, negsuc, negℤ, _+ℤ_, _*ℤ_, zero-*ℤ, +ℤ-idl, +ℤ-idr, +ℤ-assoc, +ℤ-comm, negℤ-+ℤ, negℤ-negℤ, pos-ne-negsuc}
 use borrow.Author.Tests.{eqb-true, eqb-false, eq-eqb, ne-eqb}
 use Rattle.arith.specs.Table.{sum, countBelow, selectBelow}
@@ -136,3 +137,16 @@ pub sum-nonneg : (m : ℕ) (f : ℕ → ℤ) → ((k : ℕ) → k < m → pos 0 
 unfolding sum
 sum-nonneg zero f h = ≤ℤ-refl (pos 0)
 sum-nonneg (suc m) f h = +-nonneg (sum-nonneg m f (λ k l. h k (omega arith))) (h m (omega arith))
+
+pub sum-more : (m : ℕ) (f : ℕ → ℤ) → sum (m + 1) f ≡ sum m f +ℤ f m
+unfolding sum
+sum-more m f = rw add-one
+
+-- with no term below 0, a longer sum is no less
+pub sum-rises : (m n : ℕ) (f : ℕ → ℤ) → m ≤ n → ((k : ℕ) → k < n → pos 0 ≤ℤ f k) → sum m f ≤ℤ sum n f
+sum-rises m n f h e =
+    subst (λ k. sum m f ≤ℤ sum k f) (omega arith)
+    (subst (λ z. sum m f ≤ℤ z) (sym (sum-append m (n - m) f))
+    (let r = sum-nonneg (n - m) (λ i. f (m + i)) (λ k l. e (m + k) (omega arith)) in
+    let s = parts-add (sum m f) (sum (n - m) (λ i. f (m + i))) in
+    omega arithℤ))

@@ -7,11 +7,14 @@ use mathlib.Core.List.{List, [], _∷_, _++_}
 use native.Mathlib.Omega.{arith}
 use native.Mathlib.Decide.{ℕ-discrete}
 use native.Mathlib.Nat.{add-zero, add-suc, suc-add, zero-add}
-use lib.ListN.{length, getD, length-append, List·getD-append}
-use lib.Seq.{getD-at}
+use native.Mathlib.Numerals.{add-one}
+use borrow.Author.Tests.{eq-eqb, ne-eqb}
+use lib.Dec.{eqb}
+use lib.ListN.{length, getD, set, length-set, length-append, List·getD-append}
+use lib.Seq.{getD-at, ext-getD, getD-set-same, getD-set-other}
 use lib.IntN.{ℤ, pos, _+ℤ_, +ℤ-idr}
 use Rattle.arith.specs.Table.{fill, tabulate, anyBelow, allBelow, countBelow, selectBelow, sum}
-use Rattle.arith.proofs.Flags.{split, and-left, and-right, and-intro, or-cases, or-left, or-right}
+use Rattle.arith.proofs.Flags.{split, clash, fails, and-left, and-right, and-intro, or-cases, or-left, or-right}
 use Rattle.arith.proofs.Counting.{select-yes, select-no, select-length, count-yes, count-no}
 use Rattle.arith.proofs.Sums.{sum-cong}
 
@@ -35,6 +38,22 @@ module _ {A : Type 0} where
   unfolding tabulate
   tabulate-at n f k d h = fill-at n 0 f k d h ∙ ap f (zero-add k)
 
+  -- one entry replaced
+  pub set-tabulate : (n : ℕ) (f : ℕ → A) (i : ℕ) (a : A) → i < n → set (tabulate n f) i a ≡ tabulate n (λ k. cond (eqb i k) a (f k))
+  set-tabulate n f i a h =
+      ext-getD a (set (tabulate n f) i a) (tabulate n (λ k. cond (eqb i k) a (f k)))
+      (length-set (tabulate n f) i a ∙ (tabulate-length n f ∙ sym (tabulate-length n _)))
+      (λ k l. go k (subst (λ m. k < m) (length-set (tabulate n f) i a ∙ tabulate-length n f) l) (ℕ-discrete k i))
+    where
+      go : (k : ℕ) → k < n → Dec (k ≡ i) → getD (set (tabulate n f) i a) k a ≡ getD (tabulate n (λ k. cond (eqb i k) a (f k))) k a
+      go k l (yes e) =
+          ap (λ j. getD (set (tabulate n f) i a) j a) e ∙
+          (getD-set-same (tabulate n f) i a a (subst (λ m. i < m) (sym (tabulate-length n f)) h) ∙
+          sym (tabulate-at n (λ k. cond (eqb i k) a (f k)) k a l ∙ rw (eq-eqb i k (sym e))))
+      go k l (no d) =
+          getD-set-other (tabulate n f) i k a a d ∙
+          (tabulate-at n f k a l ∙ sym (tabulate-at n (λ k. cond (eqb i k) a (f k)) k a l ∙ rw (ne-eqb i k (λ e. d (sym e)))))
+
 -- ---- a test over all numbers below n
 
 pub all-at : (n : ℕ) (p : ℕ → Bool) → allBelow n p ≡ true → (k : ℕ) → k < n → p k ≡ true
@@ -50,6 +69,21 @@ pub all-intro : (n : ℕ) (p : ℕ → Bool) → ((k : ℕ) → k < n → p k �
 unfolding allBelow
 all-intro zero p h = refl
 all-intro (suc n) p h = and-intro (h n (omega arith)) (all-intro n p (λ k l. h k (omega arith)))
+
+pub all-cong : (n : ℕ) (p q : ℕ → Bool) → ((k : ℕ) → k < n → p k ≡ q k) → allBelow n p ≡ allBelow n q
+unfolding allBelow
+all-cong zero p q h = refl
+all-cong (suc n) p q h = ap₂ _&&_ (h n (omega arith)) (all-cong n p q (λ k l. h k (omega arith)))
+
+pub all-more : (n : ℕ) (p : ℕ → Bool) → allBelow n p ≡ true → p n ≡ true → allBelow (n + 1) p ≡ true
+unfolding allBelow
+all-more n p h e = rw add-one (and-intro e h)
+
+pub all-fewer : (m n : ℕ) (p : ℕ → Bool) → n ≤ m → allBelow m p ≡ true → allBelow n p ≡ true
+all-fewer m n p h e = all-intro n p (λ k l. all-at m p e k (omega arith))
+
+pub all-fails : (n : ℕ) (p : ℕ → Bool) (k : ℕ) → k < n → p k ≡ false → allBelow n p ≡ false
+all-fails n p k h e = fails (allBelow n p) (λ q. clash (all-at n p q k h) e)
 
 pub record Found (n : ℕ) (p : ℕ → Bool) : Type 0 where
   pub at : ℕ

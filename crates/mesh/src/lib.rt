@@ -1,0 +1,31 @@
+// The mesh record and its lent tables: start, mesh check, locate.
+
+mod adjacency;
+pub mod checking;
+pub mod starting;
+pub mod tables;
+
+// Sides, point count and cell count.
+pub struct Mesh {
+    pub x: u32,
+    pub y: u32,
+    pub z: u32,
+    pub points: u32,
+    pub cells: u32,
+}
+
+// Four corner numbers and four neighbour numbers; 65,535 is no neighbour.
+pub struct Cell {
+    pub corners: [u16; 4],
+    pub neighbours: [u16; 4],
+}
+
+pub enum Started {
+    Accepted(Mesh),
+    Refused(u8),
+}
+
+pub enum Located {
+    Cell(u32),
+    Refused(u8),
+}
