@@ -12,7 +12,7 @@ use native.Mathlib.Omega.{arith}
 use borrow.Author.Tests.{leb-true, leb-false, le-ltb, lt-ltb}
 use lib.Dec.{T, leb, ltb, leb→le, le→leb, ltb→lt, lt→ltb, nleb→lt, nltb→le}
 use lib.IntN.{ℤ, pos, negsuc, negℤ, subℕ, _+ℤ_, _*ℤ_, _-ℤ_, negℤ-negℤ, *ℤ-comm, *ℤ-zero, zero-*ℤ}
-use Rattle.arith.proofs.Flags.{passes}
+use Rattle.arith.proofs.Flags.{passes, test-failed, test-passed}
 use Rattle.arith.proofs.Integers.{neg-*l, neg-*r, neg-*-neg, *-distl-sub, *-distr-sub}
 use lib.Signed.{leZ, ltZ, _≤ℤ_, _<ℤ_, leZ-yes, ltZ-yes, ltZ-no}
 
@@ -229,6 +229,12 @@ leZ-not (negsuc a) (negsuc b) = go (leb b a) refl
     go : (t : Bool) → leb b a ≡ t → ltb a b ≡ not t
     go true e = le-ltb a b (leb-true b a e)
     go false e = lt-ltb a b (leb-false b a e)
+
+pub ltZ-yes-leZ : (a b : ℤ) → ltZ b a ≡ true → leZ a b ≡ false
+ltZ-yes-leZ a b e = test-failed refl (sym (leZ-not a b) ∙ e)
+
+pub ltZ-no-leZ : (a b : ℤ) → ltZ b a ≡ false → leZ a b ≡ true
+ltZ-no-leZ a b e = test-passed refl (sym (leZ-not a b) ∙ e)
 
 -- a test is the fact
 pub ltZ-true : (a b : ℤ) → ltZ a b ≡ true → a <ℤ b

@@ -10,7 +10,7 @@ use native.Mathlib.Nat.{add-zero, add-suc}
 use lib.Dec.{eqb}
 use lib.Signed.{_≤ℤ_, ≤ℤ-refl}
 use Rattle.arith.proofs.Integers.{+-swap, *-distr}
-use Rattle.arith.proofs.Order.{+-nonneg, arithℤ, parts-add}
+use Rattle.arith.proofs.Order.{+-nonneg, +-mono-≤, arithℤ, parts-add}
 use lib.IntN.{ℤ, pos, negsuc, negℤ, _+ℤ_, _*ℤ_, zero-*ℤ, +ℤ-idl, +ℤ-idr, +ℤ-assoc, +ℤ-comm, negℤ-+ℤ, negℤ-negℤ, pos-ne-negsuc}
 use borrow.Author.Tests.{eqb-true, eqb-false, eq-eqb, ne-eqb}
 use Rattle.arith.specs.Table.{sum, countBelow, selectBelow}
@@ -150,3 +150,8 @@ sum-rises m n f h e =
     (let r = sum-nonneg (n - m) (λ i. f (m + i)) (λ k l. e (m + k) (omega arith)) in
     let s = parts-add (sum m f) (sum (n - m) (λ i. f (m + i))) in
     omega arithℤ))
+
+pub sum-mono : (m : ℕ) (f g : ℕ → ℤ) → ((k : ℕ) → k < m → f k ≤ℤ g k) → sum m f ≤ℤ sum m g
+unfolding sum
+sum-mono zero f g h = ≤ℤ-refl (pos 0)
+sum-mono (suc m) f g h = +-mono-≤ (sum-mono m f g (λ k l. h k (omega arith))) (h m (omega arith))

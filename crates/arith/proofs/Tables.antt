@@ -13,7 +13,7 @@ use lib.Dec.{eqb}
 use lib.ListN.{length, getD, set, length-set, length-append, List·getD-append}
 use lib.Seq.{getD-at, ext-getD, getD-set-same, getD-set-other}
 use lib.IntN.{ℤ, pos, _+ℤ_, +ℤ-idr}
-use Rattle.arith.specs.Table.{fill, tabulate, anyBelow, allBelow, countBelow, selectBelow, sum}
+use Rattle.arith.specs.Table.{fill, tabulate, anyBelow, allBelow, countBelow, selectBelow, firstFrom, firstBelow, sum}
 use Rattle.arith.proofs.Flags.{split, clash, fails, and-left, and-right, and-intro, or-cases, or-left, or-right}
 use Rattle.arith.proofs.Counting.{select-yes, select-no, select-length, count-yes, count-no}
 use Rattle.arith.proofs.Sums.{sum-cong}
@@ -55,6 +55,13 @@ module _ {A : Type 0} where
           (tabulate-at n f k a l ∙ sym (tabulate-at n (λ k. cond (eqb i k) a (f k)) k a l ∙ rw (ne-eqb i k (λ e. d (sym e)))))
 
 -- ---- a test over all numbers below n
+
+pub below-more : (P : ℕ → Type 0) (n : ℕ) → ((k : ℕ) → k < n → P k) → P n → (k : ℕ) → k < n + 1 → P k
+below-more P n h e k l = go (ℕ-discrete k n)
+  where
+    go : Dec (k ≡ n) → P k
+    go (yes q) = subst P (sym q) e
+    go (no d) = h k (omega arith)
 
 pub all-at : (n : ℕ) (p : ℕ → Bool) → allBelow n p ≡ true → (k : ℕ) → k < n → p k ≡ true
 unfolding allBelow
@@ -121,6 +128,76 @@ find (suc m) A B h = go (h m (omega arith)) (find m A B (λ k l. h k (omega arit
         by : (k : ℕ) → k < suc m → Dec (k ≡ m) → B k
         by k l (yes e) = subst B (sym e) b
         by k l (no d) = r k (omega arith)
+
+-- ---- the first number that passes a test
+
+here : (n s : ℕ) (p : ℕ → Bool) → p s ≡ true → firstFrom (suc n) s p ≡ s
+unfolding firstFrom
+here n s p e = subst (λ b. elim b [ true ↦ s | false ↦ firstFrom n (suc s) p ] ≡ s) (sym e) refl
+
+later : (n s : ℕ) (p : ℕ → Bool) → p s ≡ false → firstFrom (suc n) s p ≡ firstFrom n (suc s) p
+unfolding firstFrom
+later n s p e = subst (λ b. elim b [ true ↦ s | false ↦ firstFrom n (suc s) p ] ≡ firstFrom n (suc s) p) (sym e) refl
+
+first-from : (n s : ℕ) (p : ℕ → Bool) (c : ℕ) → c < n → p (s + c) ≡ true → ((k : ℕ) → k < c → p (s + k) ≡ false) → firstFrom n s p ≡ s + c
+first-from zero s p c h e b = absurd (omega arith)
+first-from (suc n) s p zero h e b = here n s p (ap p (sym (add-zero s)) ∙ e) ∙ sym (add-zero s)
+first-from (suc n) s p (suc c) h e b =
+    later n s p (ap p (sym (add-zero s)) ∙ b 0 (omega arith)) ∙
+    (first-from n (suc s) p c (omega arith) (ap p (omega arith) ∙ e) (λ k l. ap p (omega arith) ∙ b (suc k) (omega arith)) ∙ omega arith)
+
+none-from : (n s : ℕ) (p : ℕ → Bool) → ((k : ℕ) → k < n → p (s + k) ≡ false) → firstFrom n s p ≡ s + n
+unfolding firstFrom
+none-from zero s p b = sym (add-zero s)
+none-from (suc n) s p b =
+    later n s p (ap p (sym (add-zero s)) ∙ b 0 (omega arith)) ∙
+    (none-from n (suc s) p (λ k l. ap p (omega arith) ∙ b (suc k) (omega arith)) ∙ omega arith)
+
+pub first-is : (n : ℕ) (p : ℕ → Bool) (c : ℕ) → c < n → p c ≡ true → ((k : ℕ) → k < c → p k ≡ false) → firstBelow n p ≡ c
+unfolding firstBelow
+first-is n p c h e b = first-from n 0 p c h (ap p (zero-add c) ∙ e) (λ k l. ap p (zero-add k) ∙ b k l) ∙ zero-add c
+
+pub first-none : (n : ℕ) (p : ℕ → Bool) → ((k : ℕ) → k < n → p k ≡ false) → firstBelow n p ≡ n
+unfolding firstBelow
+first-none n p b = none-from n 0 p (λ k l. ap p (zero-add k) ∙ b k l) ∙ zero-add n
+
+least-from : (n s : ℕ) (p : ℕ → Bool) (k : ℕ) → k < n → p (s + k) ≡ true → firstFrom n s p ≤ s + k
+least-from zero s p k h e = absurd (omega arith)
+least-from (suc n) s p k h e = go (split (p s)) k h e (least-from n (suc s) p)
+  where
+    go : (p s ≡ true) ⊎ (p s ≡ false) → (k : ℕ) → k < suc n → p (s + k) ≡ true →
+        ((k : ℕ) → k < n → p (suc s + k) ≡ true → firstFrom n (suc s) p ≤ suc s + k) → firstFrom (suc n) s p ≤ s + k
+    go (inl q) k h e ih = omega (arith, here n s p q)
+    go (inr q) zero h e ih = clash (ap p (sym (add-zero s)) ∙ e) q
+    go (inr q) (suc k) h e ih = let l = ih k (omega arith) (ap p (omega arith) ∙ e) in omega (arith, l, later n s p q)
+
+pub first-least : (n : ℕ) (p : ℕ → Bool) (k : ℕ) → k < n → p k ≡ true → firstBelow n p ≤ k
+unfolding firstBelow
+first-least n p k h e = omega (arith, least-from n 0 p k h (ap p (zero-add k) ∙ e))
+
+pub first≤ : (n : ℕ) (p : ℕ → Bool) → firstBelow n p ≤ n
+first≤ n p = go (split (anyBelow n p))
+  where
+    from : Found n p → firstBelow n p ≤ n
+    from r = omega (arith, first-least n p (r .at) (r .below) (r .passes), r .below)
+
+    go : (anyBelow n p ≡ true) ⊎ (anyBelow n p ≡ false) → firstBelow n p ≤ n
+    go (inl e) = from (any-found n p e)
+    go (inr e) = omega (arith, first-none n p (λ k l. fails (p k) (λ q. clash (any-intro n p k l q) e)))
+
+-- one passes where the first is below the bound
+pub first-any : (n : ℕ) (p : ℕ → Bool) → firstBelow n p ≢ n → anyBelow n p ≡ true
+first-any n p d = go (split (anyBelow n p))
+  where
+    go : (anyBelow n p ≡ true) ⊎ (anyBelow n p ≡ false) → anyBelow n p ≡ true
+    go (inl e) = e
+    go (inr e) = absurd (d (first-none n p (λ k l. fails (p k) (λ q. clash (any-intro n p k l q) e))))
+
+pub first-all : (n : ℕ) (p : ℕ → Bool) → firstBelow n p ≡ n → anyBelow n p ≡ false
+first-all n p e = fails (anyBelow n p) (λ q. by (any-found n p q))
+  where
+    by : Found n p → ⊥
+    by r = absurd (omega (arith, first-least n p (r .at) (r .below) (r .passes), r .below, e))
 
 -- ---- a sum over the places that pass a test
 

@@ -13,3 +13,5 @@ pub mod Mates
 pub mod Checked
 pub mod Tally
 pub mod Verdict
+pub mod Codes
+pub mod Finding

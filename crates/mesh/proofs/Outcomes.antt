@@ -16,6 +16,10 @@ use Rattle.mesh.specs.Check.{legalBox}
 use Rattle.mesh.specs.Start.{over, short, startRefusal, startAnswer, startTables, started, startedMesh, startPoints, startCorners, startNeighbours, StartLeaves}
 use Rattle.mesh.specs.Inner.{tables, shortLengths, startRefusalOf}
 
+pub short-is : (ps cs ns : List ℕ) (w : ℕ) → shortLengths (length ps) (length cs) (length ns) w ≡ short (tables ps cs ns) w
+unfolding short shortLengths pointCapacity cellCapacity
+short-is ps cs ns w = refl
+
 -- by the lengths of the slices, with the work area's read after it was cleared
 refusal-of : (X Y Z : ℕ) (ps cs ns ws : List ℕ) {w : List ℕ} → w ≡ cleared ws →
     startRefusalOf X Y Z (length ps) (length cs) (length ns) (length w) ≡ startRefusal X Y Z (tables ps cs ns) (length ws)

@@ -47,7 +47,7 @@ module _ (ps cs : List ℕ) where
   abbrev t : Tables
   t = tables ps cs []
 
-  four-volume : (c : ℕ) → volumeOfFour ps (fourAt cs c) ≡ cellVolume t c
+  pub four-volume : (c : ℕ) → volumeOfFour ps (fourAt cs c) ≡ cellVolume t c
   unfolding cellVolume cornerAt corner
   four-volume c = volume-cong (λ i. pointIn ps (getD (fourAt cs c) i 0)) (cornerAt t c) (λ i h. ap (pointIn ps) (four-entry cs c i h))
 

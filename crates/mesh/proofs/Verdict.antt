@@ -13,13 +13,14 @@ use Rattle.arith.specs.Table.{allBelow, sum}
 use Rattle.arith.proofs.Flags.{clash, fails, bool-ext, and-left, and-right, and-intro, below-four}
 use Rattle.arith.proofs.Order.{ltZ-true, le-leZ, ≡→≤}
 use Rattle.arith.proofs.Tables.{all-at, all-intro}
+use Rattle.geometry.specs.declared.Position.{Position}
 use Rattle.geometry.specs.Volume.{InRange, inBox}
 use Rattle.geometry.proofs.Ranges.{box-in}
 use Rattle.mesh.specs.declared.Mesh.{Mesh}
 use Rattle.mesh.specs.Tables.{Tables, pointCapacity, cellCapacity, cellOf, opposite, pointIn, point, corner, cornerAt, cellVolume}
 use Rattle.mesh.specs.Mesh.{LegalSide}
 use Rattle.mesh.specs.Check.{sameZ, countsOk, boxOk, usedOk, pointsOk, cellOk, faceOk, meshCheck, isMesh}
-use Rattle.mesh.specs.Inner.{tables, Placed, Celled, Sound, CornersBelow, faceNumbers, facesOf, cellsPass}
+use Rattle.mesh.specs.Inner.{tables, Placed, Celled, Sound, Solid, CornersBelow, faceNumbers, facesOf, cellsPass}
 use Rattle.mesh.proofs.FaceNumbers.{face-eq, opposite<, cell<}
 use Rattle.mesh.proofs.Room.{Room, room-of}
 use Rattle.mesh.proofs.Numbers.{face-numbers-is}
@@ -92,20 +93,26 @@ module _ (m : Mesh) (ps cs ns : List ℕ) (w : ℕ) where
   pub sound : countsPass ≡ true → insidePass ≡ true → Sound ps cs ns (m .points) (m .cells)
   sound e h = record { placed = placed e h; corners = celled e .0; neighbours = celled e .1 }
 
-  each-cell : cellsOk ≡ true → (c : ℕ) → c < m .cells → cellOk t (m .points) c ≡ true
+  abbrev EachCell : Type 0
+  EachCell = (c : ℕ) → c < m .cells → cellOk t (m .points) c ≡ true
+
+  each-cell : cellsOk ≡ true → EachCell
   unfolding cellsPass cellOk cellVolume cornerAt corner
   each-cell e = all-at (m .cells) (cellOk t (m .points)) (and-left (allBelow (m .cells) (cellOk t (m .points))) _ e)
 
-  pub corners-below : cellsOk ≡ true → CornersBelow cs (m .points) (m .cells)
+  numbers-below : EachCell → CornersBelow cs (m .points) (m .cells)
   unfolding cellOk corner
-  corners-below e k l =
+  numbers-below each k l =
       subst (λ j. getD cs j 0 < m .points) (face-eq k)
       (ltb-true (corner t (cellOf k) (opposite k)) (m .points)
-      (all-at 4 (λ i. ltb (corner t (cellOf k) i) (m .points)) (and-left (allBelow 4 (λ i. ltb (corner t (cellOf k) i) (m .points))) _ (each-cell e (cellOf k) (cell< k l))) (opposite k) (opposite< k)))
+      (all-at 4 (λ i. ltb (corner t (cellOf k) i) (m .points)) (and-left (allBelow 4 (λ i. ltb (corner t (cellOf k) i) (m .points))) _ (each (cellOf k) (cell< k l))) (opposite k) (opposite< k)))
 
-  positive : cellsOk ≡ true → (c : ℕ) → c < m .cells → pos 0 <ℤ cellVolume t c
+  pub corners-below : cellsOk ≡ true → CornersBelow cs (m .points) (m .cells)
+  corners-below e = numbers-below (each-cell e)
+
+  positive : EachCell → (c : ℕ) → c < m .cells → pos 0 <ℤ cellVolume t c
   unfolding cellOk
-  positive e c l = ltZ-true (pos 0) (cellVolume t c) (and-right (allBelow 4 (λ i. ltb (corner t c i) (m .points))) _ (each-cell e c l))
+  positive each c l = ltZ-true (pos 0) (cellVolume t c) (and-right (allBelow 4 (λ i. ltb (corner t c i) (m .points))) _ (each c l))
 
   -- ---- the faces decide
 
@@ -130,7 +137,7 @@ module _ (m : Mesh) (ps cs ns : List ℕ) (w : ℕ) where
       numbers = faceNumbers (m .x) (m .y) (m .z) t (m .cells)
 
       is : (c i : ℕ) → c < m .cells → i < 4 → numbers c i ≡ test (4 * c + i)
-      is = face-numbers-is (m .x) (m .y) (m .z) t (m .cells) (positive h) (celled e .1 .cells-fit)
+      is = face-numbers-is (m .x) (m .y) (m .z) t (m .cells) (positive (each-cell h)) (celled e .1 .cells-fit)
 
       four : (c : ℕ) → faces c ≡ true → (i : ℕ) → i < 4 → numbers c i ≡ true
       four c q =
@@ -160,3 +167,18 @@ module _ (m : Mesh) (ps cs ns : List ℕ) (w : ℕ) where
     where
       rest : (allBelow (m .points) (usedOk t (m .cells)) && sameZ (sum (m .cells) (cellVolume t)) (pos (6 * m .x * m .y * m .z))) ≡ true
       rest = and-right (allBelow (m .cells) (cellOk t (m .points))) _ h
+
+  -- ---- a mesh
+
+  pub in-range : isMesh m t w ≡ true → {q : Position} → inBox (m .x) (m .y) (m .z) q ≡ true → InRange q
+  in-range e {q} h =
+      let k = counts (parts e .counts) in
+      let b = box-in {X = m .x} {Y = m .y} {Z = m .z} {p = q} h in
+      record { x≤ = omega (arith, b .x≤, k .sideX .high); y≤ = omega (arith, b .y≤, k .sideY .high); z≤ = omega (arith, b .z≤, k .sideZ .high) }
+
+  pub solid : isMesh m t w ≡ true → Solid ps cs (m .points) (m .cells)
+  unfolding cellVolume cornerAt corner
+  solid e =
+      let p = parts e in
+      let each = all-at (m .cells) (cellOk t (m .points)) (p .cells) in
+      record { placed = placed (p .counts) (p .inside); celled = celled (p .counts) .0; below = numbers-below each; positive = positive each }

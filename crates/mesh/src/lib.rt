@@ -2,6 +2,7 @@
 
 mod adjacency;
 pub mod checking;
+pub mod locating;
 pub mod starting;
 pub mod tables;
 

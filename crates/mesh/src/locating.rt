@@ -1,0 +1,137 @@
+ghost use mathlib.Core.Path.{_≡_};
+ghost use mathlib.Core.List.{[]};
+ghost use Prim.Native.Nat.{_≤_, _<_, _*_};
+ghost use lib.ListN.{length, getD};
+ghost use Rattle.arith.specs.Table.{firstBelow};
+ghost use Rattle.geometry.specs.Volume.{InRange};
+ghost use Rattle.mesh.specs.Tables.{cleared};
+ghost use Rattle.mesh.specs.Locate.{holds, meshRefusal, locateCall};
+ghost use Rattle.mesh.specs.Inner.{tables, axisCode, sideCode, sideCodes, sharedBits, holdsFour, Coded, Placed, Solid};
+
+use crate::checking::{in_box, is_mesh};
+use crate::starting::{legal_box, too_short};
+use crate::tables::{clear, four_at, point_at};
+use crate::{Located, Mesh};
+use geometry::volume::volumes_at;
+use geometry::Position;
+
+fn axis_code(a: u32, b: u32) -> u8
+    ensures { λ r. ⌜ r ≡ axisCode a b ⌝ }
+{
+    ((a < b) as u8) + 2 * ((b < a) as u8)
+}
+
+fn side_code(p: Position, q: Position) -> u8
+    ensures { λ r. ⌜ r ≡ sideCode p q ⌝ }
+{
+    axis_code(p.x, q.x) + 4 * axis_code(p.y, q.y) + 16 * axis_code(p.z, q.z)
+}
+
+// Six bits a point: below or above q on each axis.
+pub fn side_codes(points: &[u32], np: usize, q: Position) -> [u8; 1024]
+    requires { ⌜ (np ≤ 1024) × (3 * np ≤ length (now points)) ⌝ }
+    ensures { λ r. ⌜ r ≡ sideCodes (now (points .entry)) np q ⌝ }
+{
+    let mut codes = [0u8; 1024];
+    let mut v: usize = 0;
+    while v < np {
+        codes[v] = side_code(point_at(points, v), q);
+        v += 1;
+    }
+    codes
+}
+
+fn shared_bits(codes: &[u8], k: [u16; 4]) -> u8
+    requires { ⌜ (getD k 0 0 < length (now codes)) × (getD k 1 0 < length (now codes))
+        × (getD k 2 0 < length (now codes)) × (getD k 3 0 < length (now codes)) ⌝ }
+    ensures { λ r. ⌜ r ≡ sharedBits (now (codes .entry)) k ⌝ }
+{
+    codes[k[0] as usize] & codes[k[1] as usize] & codes[k[2] as usize] & codes[k[3] as usize]
+}
+
+// Whether a cell holds q. Where all its corners are beyond q on one side of an axis, it does not, and no volume is worked out.
+pub fn cell_holds(points: &[u32], codes: &[u8], k: [u16; 4], q: Position) -> bool
+    requires { ⌜ Coded (now points) (now codes) k q ⌝ }
+    ensures { λ r. ⌜ r ≡ holdsFour (now (points .entry)) k q ⌝ }
+{
+    if shared_bits(codes, k) != 0 {
+        return false;
+    }
+    let v = volumes_at(
+        point_at(points, k[0] as usize),
+        point_at(points, k[1] as usize),
+        point_at(points, k[2] as usize),
+        point_at(points, k[3] as usize),
+        q,
+    );
+    let v0 = v.v0;
+    let v1 = v.v1;
+    let v2 = v.v2;
+    let v3 = v.v3;
+    if v3 < 0 {
+        return false;
+    }
+    if v2 < 0 {
+        return false;
+    }
+    if v1 < 0 {
+        return false;
+    }
+    0 <= v0
+}
+
+// The lowest-numbered cell that holds q; the cell count where none does.
+fn first_holder(points: &[u32], corners: &[u16], np: usize, n: usize, q: Position) -> usize
+    requires { ⌜ Solid (now points) (now corners) np n × InRange q ⌝ }
+    ensures { λ r. ⌜ r ≡ firstBelow n (holds (tables (now (points .entry)) (now (corners .entry)) []) q) ⌝ }
+{
+    let codes = side_codes(points, np, q);
+    let mut c: usize = 0;
+    while c < n {
+        if cell_holds(points, &codes, four_at(corners, c), q) {
+            return c;
+        }
+        c += 1;
+    }
+    n
+}
+
+// Refusals 1 to 3 of a call on a mesh, else 0.
+pub fn mesh_refusal(mesh: Mesh, points: &[u32], corners: &[u16], neighbours: &[u16], work: usize, fewer: bool) -> u8
+    ensures { λ r. ⌜ r ≡ meshRefusal mesh (tables (now (points .entry)) (now (corners .entry)) (now (neighbours .entry))) work fewer ⌝ }
+{
+    if fewer {
+        return 1;
+    }
+    if too_short(points.len(), corners.len(), neighbours.len(), work) {
+        return 1;
+    }
+    if !legal_box(mesh.x, mesh.y, mesh.z) {
+        return 2;
+    }
+    if !is_mesh(mesh, points, corners, neighbours, work) {
+        return 3;
+    }
+    0
+}
+
+// The lowest-numbered cell that holds the position.
+pub fn locate(mesh: Mesh, points: &[u32], corners: &[u16], neighbours: &[u16], work: &mut [u16], q: Position) -> Located
+    ensures { λ r. ⌜ (r ≡ locateCall mesh (tables (now (points .entry)) (now (corners .entry)) (now (neighbours .entry))) (length (now (work .entry))) q)
+        × (now (work .exit) ≡ cleared (now (work .entry))) ⌝ }
+{
+    clear(work);
+    let refusal = mesh_refusal(mesh, points, corners, neighbours, work.len(), false);
+    if refusal != 0 {
+        return Located::Refused(refusal);
+    }
+    if !in_box(mesh.x, mesh.y, mesh.z, q) {
+        return Located::Refused(4);
+    }
+    let n = mesh.cells as usize;
+    let c = first_holder(points, corners, mesh.points as usize, n, q);
+    if c == n {
+        return Located::Refused(7);
+    }
+    Located::Cell(c as u32)
+}
