@@ -1,26 +1,25 @@
 -- The mesh check answers yes for meshes, and for nothing else.
-use Prim.Native.Nat.{ℕ, zero, suc, _+_, _*_, _-_, _/_, _%_, _≤_, _<_}
-use mathlib.Core.Bool.{Bool, true, false, not, _&&_, _||_, cond}
+use Prim.Native.Nat.{ℕ, _+_, _*_, _≤_, _<_}
+use mathlib.Core.Bool.{Bool, true, false, _&&_, cond, _||_}
 use mathlib.Core.Logic.{_≢_, _⊎_, inl, inr, _↔_}
-use mathlib.Core.Path.{_≡_, refl, sym, ap, _∙_, subst}
-use native.Mathlib.Omega.{arith}
+use mathlib.Core.Path.{_≡_, refl, sym, ap, _∙_}
 use native.Mathlib.Decide.{ℕ-discrete}
 use lib.Dec.{leb, ltb, eqb}
 use lib.IntN.{ℤ, pos}
-use lib.Signed.{_<ℤ_, _≤ℤ_, ltZ, leZ}
+use lib.Signed.{ltZ, leZ}
 use borrow.Author.Tests.{leb-true, le-leb, ltb-true, lt-ltb, eqb-true, eqb-false, eq-eqb, ne-eqb}
 use Rattle.arith.specs.Table.{anyBelow, allBelow, sum}
 use Rattle.arith.proofs.Flags.{split, and-left, and-right, and-intro, or-cases, or-left, or-right}
 use Rattle.arith.proofs.Tables.{all-at, all-intro, any-found, any-intro, Found}
 use Rattle.arith.proofs.Order.{≤-antisym, ≡→≤, ltZ-true, lt-ltZ, leZ-true, le-leZ}
 use Rattle.geometry.specs.declared.Position.{Position}
-use Rattle.geometry.specs.Volume.{samePosition, inBox, InBox}
+use Rattle.geometry.specs.Volume.{samePosition, inBox}
+use Rattle.geometry.proofs.Ranges.{box-in, in-box}
 use Rattle.mesh.specs.Tables.{Tables, none, cellOf, opposite, point, corner, across, cornerAt, cellVolume, side, sameFace}
-use Rattle.mesh.specs.Mesh.{boxCorner, Wall, low-x, low-y, low-z, high-x, high-y, high-z, along, level, OnWall, OnFace, Mated, CornerOf, LegalSide, IsMesh}
+use Rattle.mesh.specs.Mesh.{boxCorner, Wall, low-x, low-y, low-z, high-x, high-y, high-z, along, level, OnWall, Mated, CornerOf, LegalSide, IsMesh}
 use Rattle.mesh.specs.Check.{sameZ, legalSide, countsOk, usedOk, pointsOk, cellOk, wallOk, someWall, matedOk, faceOk, meshCheck, legalBox, boxOk}
 use Rattle.mesh.proofs.Links.{same-yes, same-of}
-use Rattle.geometry.proofs.Ranges.{box-in, in-box}
-use Rattle.mesh.proofs.FaceNumbers.{face-cell, face-opposite, opposite<, cell<, face-eq}
+use Rattle.mesh.proofs.FaceNumbers.{face-cell, opposite<, cell<, face-eq}
 
 -- ---- positions
 
@@ -47,7 +46,7 @@ side-yes s h = and-intro (le-leb 1 s (h .low)) (le-leb s 131072 (h .high))
 -- ---- corners, walls, mates
 
 module _ (t : Tables) where
-  used-of : (n v : ℕ) → usedOk t n v ≡ true → CornerOf t n v
+  pub used-of : (n v : ℕ) → usedOk t n v ≡ true → CornerOf t n v
   unfolding usedOk
   used-of n v e = go (any-found n (λ c. anyBelow 4 (λ i. eqb (corner t c i) v)) e)
     where
@@ -145,7 +144,7 @@ module _ (t : Tables) where
     unfolding faceOk
     face-wall-of e b = some-wall-of X Y Z f (rw (eq-eqb (across t f) none b) at e)
 
-    face-mated-of : faceOk X Y Z t n f ≡ true → across t f ≢ none → (across t f < n) × ((g : ℕ) × Mated t f g)
+    pub face-mated-of : faceOk X Y Z t n f ≡ true → across t f ≢ none → (across t f < n) × ((g : ℕ) × Mated t f g)
     unfolding faceOk
     face-mated-of e d = go (rw (ne-eqb (across t f) none d) at e)
       where

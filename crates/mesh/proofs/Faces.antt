@@ -1,5 +1,5 @@
 -- Faces of a mesh: the mate is an involution that keeps the three corners, and mated faces have every position on opposite sides.
-use Prim.Native.Nat.{ℕ, zero, suc, _+_, _*_, _≤_, _<_}
+use Prim.Native.Nat.{ℕ, _+_, _*_, _≤_, _<_}
 use mathlib.Core.Bool.{Bool, true, false, cond}
 use mathlib.Core.Logic.{_≢_, _⊎_, inl, inr}
 use mathlib.Core.Path.{_≡_, refl, sym, ap, _∙_, subst}
@@ -19,8 +19,8 @@ use Rattle.mesh.specs.Mesh.{OnFace, Mated, IsMesh}
 use Rattle.mesh.proofs.Room.{Room}
 use Rattle.mesh.proofs.Glued.{Glued}
 use Rattle.mesh.proofs.FaceNumbers.{face-cell, face-opposite, opposite<, cell<}
-use Rattle.mesh.proofs.Links as links
 use Rattle.mesh.proofs.Links.{Same, same-yes, same-of, link}
+use Rattle.mesh.proofs.Links as links
 
 -- the first of four numbers that passes
 first : (p : ℕ → Bool) (b a : ℕ) → a < 4 → p (b + a) ≡ true → ((l : ℕ) → l < 4 → l ≢ a → p (b + l) ≡ false) →
@@ -110,6 +110,23 @@ module _ {X Y Z pc cc np n : ℕ} {t : Tables} (M : IsMesh X Y Z pc cc np n t) (
   pub same-back : (f : ℕ) → f < 4 * n → across t f ≢ none → Same t (mate t f) f
   same-back f f< real = subst (Same t (mate t f)) (mate-mate f f< real) (mated (mate t f) (mate< f f< real) (mate-real f f< real) .same)
 
+  -- no cell is its own neighbour
+  pub not-own : (f : ℕ) → f < 4 * n → across t f ≢ none → across t f ≢ cellOf f
+  unfolding side cellVolume
+  not-own f f< real e =
+      <-irrefl (<-trans (M .positive (cellOf f) (cell< f f<))
+      (subst (λ z. z <ℤ pos 0) (volume-id (cornerAt t (cellOf f)) (opposite f) (cornerAt t (cellOf f) (opposite f)) refl)
+      (subst (λ g. volume (replaced (cornerAt t (cellOf f)) (opposite f) (cornerAt t (cellOf g) (opposite g))) <ℤ pos 0) same-face (mated f f< real .far-side))))
+    where
+      cells : cellOf (mate t f) ≡ cellOf f
+      cells = mated f f< real .far-cell ∙ e
+
+      sides : opposite f ≡ opposite (mate t f)
+      sides = links.same-once t f (mate t f) (M .positive (cellOf f) (cell< f f<)) (M .positive (cellOf (mate t f)) (mate-cell< f f< real)) (mated f f< real .same) f (sym cells) (λ k l d. record { place = k; place< = l; off = d; is = refl })
+
+      same-face : mate t f ≡ f
+      same-face = omega (arith, cells, sides)
+
   pub glued : Glued n (corner t) (across t) (mate t)
   glued = record {
     few = few;
@@ -119,6 +136,7 @@ module _ {X Y Z pc cc np n : ℕ} {t : Tables} (M : IsMesh X Y Z pc cc np n t) (
     mate-cell = λ f l r. mated f l r .far-cell;
     mate-mate = mate-mate;
     mate-across = λ f l r. mated f l r .back;
+    apart = not-own;
     shared = λ f k l r hk d.
         let o : OnFace t (mate t f) (corner t (cellOf f) k) = mated f l r .same k hk d in
         (o .place, o .place<, o .off, ap (λ x. corner t x (o .place)) (sym (mated f l r .far-cell)) ∙ o .is);
@@ -138,6 +156,12 @@ module _ {X Y Z pc cc np n : ℕ} {t : Tables} (M : IsMesh X Y Z pc cc np n t) (
 
     pub link< : (k : ℕ) → k < 4 → link t f (mate t f) k < 4
     link< = links.link< t f (mate t f) own far shared
+
+    pub link-opposite : link t f (mate t f) (opposite f) ≡ opposite (mate t f)
+    link-opposite = links.link-opposite t f (mate t f) own far shared
+
+    pub link-one : (j k : ℕ) → j < 4 → k < 4 → link t f (mate t f) j ≡ link t f (mate t f) k → j ≡ k
+    link-one = links.link-one t f (mate t f) own far shared
 
     pub link-position : (k : ℕ) → k < 4 → k ≢ opposite f → cornerAt t (cellOf (mate t f)) (link t f (mate t f) k) ≡ cornerAt t (cellOf f) k
     link-position = links.link-position t f (mate t f) own far shared
@@ -161,20 +185,3 @@ module _ {X Y Z pc cc np n : ℕ} {t : Tables} (M : IsMesh X Y Z pc cc np n t) (
         ap negℤ (sym (mirrored (replaced (cornerAt t (cellOf (mate t f))) (opposite (mate t f)) q)) ∙
         volume-cong (λ k. replaced (cornerAt t (cellOf (mate t f))) (opposite (mate t f)) q (link t f (mate t f) k)) (replaced (cornerAt t (cellOf f)) (opposite f) q)
         (links.through t f (mate t f) own far shared q))
-
-  -- no cell is its own neighbour
-  pub not-own : (f : ℕ) → f < 4 * n → across t f ≢ none → across t f ≢ cellOf f
-  unfolding side cellVolume
-  not-own f f< real e =
-      <-irrefl (<-trans (M .positive (cellOf f) (cell< f f<))
-      (subst (λ z. z <ℤ pos 0) (volume-id (cornerAt t (cellOf f)) (opposite f) (cornerAt t (cellOf f) (opposite f)) refl)
-      (subst (λ g. volume (replaced (cornerAt t (cellOf f)) (opposite f) (cornerAt t (cellOf g) (opposite g))) <ℤ pos 0) same-face (mated f f< real .far-side))))
-    where
-      cells : cellOf (mate t f) ≡ cellOf f
-      cells = mated f f< real .far-cell ∙ e
-
-      sides : opposite f ≡ opposite (mate t f)
-      sides = links.same-once t f (mate t f) (M .positive (cellOf f) (cell< f f<)) (M .positive (cellOf (mate t f)) (mate-cell< f f< real)) (mated f f< real .same) f (sym cells) (λ k l d. record { place = k; place< = l; off = d; is = refl })
-
-      same-face : mate t f ≡ f
-      same-face = omega (arith, cells, sides)

@@ -1,5 +1,5 @@
 -- Cells glued along faces: what turning round an edge needs of the tables.
-use Prim.Native.Nat.{ℕ, zero, suc, _+_, _*_, _/_, _%_, _≤_, _<_}
+use Prim.Native.Nat.{ℕ, _*_, _≤_, _<_}
 use mathlib.Core.Logic.{_≢_}
 use mathlib.Core.Path.{_≡_}
 use Rattle.mesh.specs.Tables.{none, cellOf, opposite}
@@ -12,5 +12,6 @@ pub record Glued (n : ℕ) (corner : ℕ → ℕ → ℕ) (across mate : ℕ →
   pub mate-cell : (f : ℕ) → f < 4 * n → across f ≢ none → cellOf (mate f) ≡ across f
   pub mate-mate : (f : ℕ) → f < 4 * n → across f ≢ none → mate (mate f) ≡ f
   pub mate-across : (f : ℕ) → f < 4 * n → across f ≢ none → across (mate f) ≡ cellOf f
+  pub apart : (f : ℕ) → f < 4 * n → across f ≢ none → across f ≢ cellOf f
   pub shared : (f k : ℕ) → f < 4 * n → across f ≢ none → k < 4 → k ≢ opposite f →
       (l : ℕ) × (l < 4) × (l ≢ opposite (mate f)) × (corner (across f) l ≡ corner (cellOf f) k)

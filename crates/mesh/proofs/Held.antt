@@ -1,27 +1,25 @@
 -- What a cell that holds a point says of the planes and walls through it (M3, M4), and of a corner elsewhere.
-use Prim.Native.Nat.{ℕ, zero, suc, _+_, _*_, _/_, _%_, _≤_, _<_}
-use mathlib.Core.Bool.{Bool, true, false, cond}
+use Prim.Native.Nat.{ℕ, _+_, _*_, _<_}
 use mathlib.Core.Logic.{_≢_, _⊎_, inl, inr}
-use mathlib.Core.Path.{_≡_, refl, sym, ap, ap₂, _∙_, subst}
-use native.Mathlib.Omega.{arith}
+use mathlib.Core.Path.{_≡_, sym, ap, _∙_, subst}
 use native.Mathlib.Decide.{ℕ-discrete}
-use lib.IntN.{ℤ, pos, negℤ, natAbs, _+ℤ_, _-ℤ_, _*ℤ_, zero-*ℤ, *ℤ-zero}
+use lib.IntN.{ℤ, pos, natAbs, _-ℤ_, _*ℤ_, zero-*ℤ}
 use lib.Signed.{_<ℤ_, _≤ℤ_}
 use Rattle.arith.specs.Table.{sum}
 use Rattle.arith.proofs.Integers.{eq-of-sub, *-distl-sub, sub-self}
-use Rattle.arith.proofs.Order.{≡→≤, <→≤, ≤-antisym, *-nonneg, cancel-nonneg, cancel-zero, trichotomy, total}
+use Rattle.arith.proofs.Order.{≡→≤, <→≤, ≤-antisym, *-nonneg, cancel-nonneg, cancel-zero, trichotomy}
 use Rattle.arith.proofs.Sums.{sum-cong, sum-times, sum-nonneg}
 use Rattle.arith.proofs.Tables.{find}
 use Rattle.geometry.specs.declared.Position.{Position}
 use Rattle.geometry.specs.Volume.{volume, replaced}
-use Rattle.geometry.proofs.Places.{replaced-same, replaced-other, replaced-id}
-use Rattle.geometry.proofs.Algebra.{volume-cong, volume-id, volume-zero, volume-split, cramer-x, cramer-y, cramer-z, volume-interpolation}
-use Rattle.mesh.specs.Tables.{Tables, none, cellOf, opposite, corner, across, cornerAt, cellVolume, side, mate}
+use Rattle.geometry.proofs.Places.{replaced-same, replaced-other}
+use Rattle.geometry.proofs.Algebra.{volume-id, volume-zero, volume-split, cramer-x, cramer-y, cramer-z, volume-interpolation}
+use Rattle.mesh.specs.Tables.{Tables, none, cellOf, opposite, across, cornerAt, cellVolume, side, mate}
 use Rattle.mesh.specs.Mesh.{Wall, low-x, low-y, low-z, high-x, high-y, high-z, along, level, OnWall, IsMesh}
 use Rattle.mesh.proofs.Room.{Room}
 use Rattle.mesh.proofs.Links.{link}
 use Rattle.mesh.proofs.Faces.{link<, link-position, mated, mate-cell<}
-use Rattle.mesh.proofs.FaceNumbers.{face-cell, face-opposite, opposite<, cell<}
+use Rattle.mesh.proofs.FaceNumbers.{face-cell, face-opposite, cell<}
 
 cancel : (v : ℤ) (a b : ℕ) → pos 0 <ℤ v → v *ℤ pos a ≡ v *ℤ pos b → a ≡ b
 cancel v a b h e =

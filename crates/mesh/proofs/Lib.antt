@@ -11,7 +11,5 @@ pub mod Held
 pub mod Walls
 pub mod Mates
 pub mod Checked
-pub mod Tally
-pub mod Verdict
-pub mod Codes
-pub mod Finding
+pub mod FirstMesh
+pub mod Pieces

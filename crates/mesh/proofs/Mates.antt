@@ -1,19 +1,17 @@
 -- The mate by name: of the faces of the cell across f, only the mate names f's cell back. So code finds it by four comparisons.
-use Prim.Native.Nat.{ℕ, zero, suc, _+_, _*_, _/_, _%_, _≤_, _<_}
-use mathlib.Core.Logic.{_≢_, _⊎_, inl, inr}
-use mathlib.Core.Path.{_≡_, refl, sym, ap, _∙_, subst}
+use Prim.Native.Nat.{ℕ, _+_, _*_, _<_}
+use mathlib.Core.Logic.{_≢_}
+use mathlib.Core.Path.{_≡_, sym, ap, _∙_, subst}
 use native.Mathlib.Omega.{arith}
 use native.Mathlib.Decide.{ℕ-discrete}
-use lib.IntN.{ℤ, pos}
-use lib.Signed.{_<ℤ_, _≤ℤ_}
+use lib.IntN.{pos}
+use lib.Signed.{_<ℤ_}
 use Rattle.arith.proofs.Order.{<-irrefl, <-≤-trans}
-use Rattle.geometry.specs.declared.Position.{Position}
-use Rattle.geometry.specs.Volume.{volume, replaced}
 use Rattle.mesh.specs.Tables.{Tables, none, cellOf, opposite, point, corner, across, cornerAt, cellVolume, side, mate}
-use Rattle.mesh.specs.Mesh.{OnFace, Mated, IsMesh}
+use Rattle.mesh.specs.Mesh.{OnFace, IsMesh}
 use Rattle.mesh.proofs.Room.{Room}
 use Rattle.mesh.proofs.FaceNumbers.{face-eq, face-cell, face-opposite, opposite<, cell<}
-use Rattle.mesh.proofs.Faces.{few, mated, mate-cell<}
+use Rattle.mesh.proofs.Faces.{few, mated}
 use Rattle.mesh.proofs.Held.{own-corner}
 
 module _ {X Y Z pc cc np n : ℕ} {t : Tables} (M : IsMesh X Y Z pc cc np n t) (R : Room pc cc t) where

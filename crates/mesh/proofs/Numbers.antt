@@ -1,13 +1,13 @@
 -- The face test by numbers is the face test: the far side is read off the order of the corner numbers, since both volumes are
 -- above 0.
-use Prim.Native.Nat.{ℕ, zero, suc, _+_, _*_, _-_, _%_, _≤_, _<_}
-use mathlib.Core.Bool.{Bool, true, false, not, _&&_, _||_, cond, xor, and-true}
-use mathlib.Core.List.{List, [], _∷_}
+use Prim.Native.Nat.{ℕ, zero, suc, _+_, _*_, _-_, _≤_, _<_}
+use mathlib.Core.Bool.{Bool, true, false, not, _&&_, cond, xor, and-true, _||_}
+use mathlib.Core.List.{List, _∷_, []}
 use mathlib.Core.Logic.{_≢_, _⊎_, inl, inr}
 use mathlib.Core.Path.{_≡_, refl, sym, ap, _∙_, subst}
 use native.Mathlib.Omega.{arith}
 use native.Mathlib.Nat.{add-zero}
-use borrow.Author.Tests.{eq-eqb, ne-eqb, eqb-true, eqb-false, leb-true, le-leb, lt-ltb, le-ltb, ltb-true}
+use borrow.Author.Tests.{eq-eqb, ne-eqb, eqb-true, leb-true, le-leb, ltb-true}
 use lib.Dec.{leb, ltb, eqb}
 use lib.ListN.{length, getD}
 use lib.IntN.{pos}
@@ -15,13 +15,15 @@ use lib.Signed.{_<ℤ_, ltZ}
 use mir.Val.{boolByte}
 use Rattle.arith.specs.Table.{allBelow, anyBelow}
 use Rattle.arith.proofs.Flags.{split, clash, and-left, and-right, and-intro, or-other, bool-ext, below-four}
-use Rattle.arith.proofs.Tables.{all-at, any-found, any-intro, Found}
+use Rattle.arith.proofs.Tables.{all-at, any-found, any-intro}
 use Rattle.arith.proofs.Determinant.{odd}
+use Rattle.geometry.proofs.Algebra.{volume-cong}
 use Rattle.mesh.specs.declared.Cell.{Cell}
-use Rattle.mesh.specs.Tables.{Tables, none, cellOf, opposite, point, corner, across, cornerAt, cellVolume, side, sameFace, placeOf}
+use Rattle.mesh.specs.Tables.{Tables, pointIn, none, cellOf, opposite, point, corner, across, cornerAt, cellVolume, side, sameFace, placeOf}
 use Rattle.mesh.specs.Mesh.{OnFace, Wall, low-x, low-y, low-z, high-x, high-y, high-z, along, level}
 use Rattle.mesh.specs.Check.{matedOk, wallOk, someWall, faceOk}
-use Rattle.mesh.specs.Inner.{placeIn, oddOrder, fourAt, cellAt, facesBack, first, second, third, allOn, onOneWall, faceTest, faceNumbers}
+use Rattle.mesh.specs.Inner.{tables, volumeOfFour, fourAt, cellAt}
+use Rattle.mesh.specs.Adjacency.{placeIn, oddOrder, facesBack, first, second, third, allOn, onOneWall, faceTest, faceNumbers}
 use Rattle.mesh.proofs.FaceNumbers.{face-cell, face-opposite}
 use Rattle.mesh.proofs.Links.{Same, same-yes, same-of, link, turned, distinct, far-side-turned, place-of}
 
@@ -86,27 +88,51 @@ pub record Others (i : ℕ) : Type 0 where
 pub others : (i : ℕ) → i < 4 → Others i
 others = below-four Others
     record {
-      first< = omega arith; second< = omega arith; third< = omega arith;
-      first-off = omega arith; second-off = omega arith; third-off = omega arith;
-      one-two = omega arith; one-three = omega arith; two-three = omega arith;
+      first< = omega arith;
+      second< = omega arith;
+      third< = omega arith;
+      first-off = omega arith;
+      second-off = omega arith;
+      third-off = omega arith;
+      one-two = omega arith;
+      one-three = omega arith;
+      two-three = omega arith;
       all = below-four (λ k. k ≢ 0 → (k ≡ 1) ⊎ ((k ≡ 2) ⊎ (k ≡ 3))) (λ d. absurd (d refl)) (λ d. inl refl) (λ d. inr (inl refl)) (λ d. inr (inr refl));
     }
     record {
-      first< = omega arith; second< = omega arith; third< = omega arith;
-      first-off = omega arith; second-off = omega arith; third-off = omega arith;
-      one-two = omega arith; one-three = omega arith; two-three = omega arith;
+      first< = omega arith;
+      second< = omega arith;
+      third< = omega arith;
+      first-off = omega arith;
+      second-off = omega arith;
+      third-off = omega arith;
+      one-two = omega arith;
+      one-three = omega arith;
+      two-three = omega arith;
       all = below-four (λ k. k ≢ 1 → (k ≡ 0) ⊎ ((k ≡ 2) ⊎ (k ≡ 3))) (λ d. inl refl) (λ d. absurd (d refl)) (λ d. inr (inl refl)) (λ d. inr (inr refl));
     }
     record {
-      first< = omega arith; second< = omega arith; third< = omega arith;
-      first-off = omega arith; second-off = omega arith; third-off = omega arith;
-      one-two = omega arith; one-three = omega arith; two-three = omega arith;
+      first< = omega arith;
+      second< = omega arith;
+      third< = omega arith;
+      first-off = omega arith;
+      second-off = omega arith;
+      third-off = omega arith;
+      one-two = omega arith;
+      one-three = omega arith;
+      two-three = omega arith;
       all = below-four (λ k. k ≢ 2 → (k ≡ 0) ⊎ ((k ≡ 1) ⊎ (k ≡ 3))) (λ d. inl refl) (λ d. inr (inl refl)) (λ d. absurd (d refl)) (λ d. inr (inr refl));
     }
     record {
-      first< = omega arith; second< = omega arith; third< = omega arith;
-      first-off = omega arith; second-off = omega arith; third-off = omega arith;
-      one-two = omega arith; one-three = omega arith; two-three = omega arith;
+      first< = omega arith;
+      second< = omega arith;
+      third< = omega arith;
+      first-off = omega arith;
+      second-off = omega arith;
+      third-off = omega arith;
+      one-two = omega arith;
+      one-three = omega arith;
+      two-three = omega arith;
       all = below-four (λ k. k ≢ 3 → (k ≡ 0) ⊎ ((k ≡ 1) ⊎ (k ≡ 2))) (λ d. inl refl) (λ d. inr (inl refl)) (λ d. inr (inr refl)) (λ d. absurd (d refl));
     }
 
@@ -119,6 +145,11 @@ four-entry xs u = below-four (λ l. getD (fourAt xs u) l 0 ≡ getD xs (4 * u + 
 pub four-corner : (t : Tables) (u l : ℕ) → l < 4 → getD (fourAt (t .corners) u) l 0 ≡ corner t u l
 unfolding corner
 four-corner t u = four-entry (t .corners) u
+
+-- the volume of a cell from its four corner numbers
+pub four-volume : (ps cs : List ℕ) (c : ℕ) → volumeOfFour ps (fourAt cs c) ≡ cellVolume (tables ps cs []) c
+unfolding cellVolume cornerAt corner
+four-volume ps cs c = volume-cong (λ i. pointIn ps (getD (fourAt cs c) i 0)) (cornerAt (tables ps cs []) c) (λ i h. ap (pointIn ps) (four-entry cs c i h))
 
 -- an entry within the length, whatever stands beyond
 any-default : (xs : List ℕ) (k d e : ℕ) → k < length xs → getD xs k d ≡ getD xs k e
@@ -311,18 +342,29 @@ module _ (t : Tables) (c u i : ℕ) (hi : i < 4) (pc : pos 0 <ℤ cellVolume t c
       let b = on (second i) (O .second<) (O .second-off) in
       let d = on (third i) (O .third<) (O .third-off) in
       record {
-        at-p = a .0; at-q = b .0; at-r = d .0;
+        at-p = a .0;
+        at-q = b .0;
+        at-r = d .0;
         k< = hk;
-        p< = a .1; q< = b .1; r< = d .1;
-        p-is = a .3; q-is = b .3; r-is = d .3;
-        p-off = a .2; q-off = b .2; r-off = d .2;
+        p< = a .1;
+        q< = b .1;
+        r< = d .1;
+        p-is = a .3;
+        q-is = b .3;
+        r-is = d .3;
+        p-off = a .2;
+        q-off = b .2;
+        r-off = d .2;
       }
     where
       on : (j : ℕ) → j < 4 → j ≢ i → (l : ℕ) × (l < 4) × (l ≢ k) × (corner t u l ≡ corner t c j)
       on j hj d =
-          let o = same j hj (λ e. d (e ∙ face-opposite c i hi)) in
-          (o .place, o .place<, (λ e. o .off (e ∙ sym (face-opposite u k hk))),
-          ap (λ x. corner t x (o .place)) (sym (face-cell u k hk)) ∙ (o .is ∙ ap (λ x. corner t x j) (face-cell c i hi)))
+          let o = same j hj (λ e. d (e ∙ face-opposite c i hi)) in (
+            o .place,
+            o .place<,
+            (λ e. o .off (e ∙ sym (face-opposite u k hk))),
+            ap (λ x. corner t x (o .place)) (sym (face-cell u k hk)) ∙ (o .is ∙ ap (λ x. corner t x j) (face-cell c i hi)),
+          )
 
   -- places from a sum that leaves one
   rest-off : (a b d : ℕ) → a < 4 → b < 4 → d < 4 → a ≢ b → a ≢ d → b ≢ d →
@@ -340,11 +382,19 @@ module _ (t : Tables) (c u i : ℕ) (hi : i < 4) (pc : pos 0 <ℤ cellVolume t c
       (differ (placeIn far p) (placeIn far r) (first i) (third i) (a .0) (d .0) (O .first<) (O .third<) (a .1) (d .1) (O .one-three))
       (differ (placeIn far q) (placeIn far r) (second i) (third i) (b .0) (d .0) (O .second<) (O .third<) (b .1) (d .1) (O .two-three)) in
       record {
-        at-p = placeIn far p; at-q = placeIn far q; at-r = placeIn far r;
+        at-p = placeIn far p;
+        at-q = placeIn far q;
+        at-r = placeIn far r;
         k< = o .0;
-        p< = a .0; q< = b .0; r< = d .0;
-        p-is = a .1; q-is = b .1; r-is = d .1;
-        p-off = o .1; q-off = o .2; r-off = o .3;
+        p< = a .0;
+        q< = b .0;
+        r< = d .0;
+        p-is = a .1;
+        q-is = b .1;
+        r-is = d .1;
+        p-off = o .1;
+        q-off = o .2;
+        r-off = o .3;
       }
 
   module _ (room : 4 * u + 4 ≤ length (t .neighbours)) where

@@ -1,18 +1,16 @@
 -- What a start answers and leaves, from its parts.
 use Prim.Native.Nat.{ℕ, _≤_, _/_, min}
 use native.Mathlib.Omega.{arith}
-use mathlib.Core.Bool.{Bool, true, false, not, cond, _||_}
+use mathlib.Core.Bool.{true, false}
 use mathlib.Core.List.{List}
 use mathlib.Core.Logic.{_⊎_, inl, inr}
-use mathlib.Core.Path.{_≡_, refl, ap, sym, _∙_, subst}
-use borrow.Author.Tests.{ne-eqb, eq-eqb, ltb-false, not-false}
-use lib.Dec.{eqb, ltb}
+use mathlib.Core.Path.{_≡_, refl, _∙_}
+use borrow.Author.Tests.{ne-eqb, eq-eqb, ltb-false}
+use lib.Dec.{ltb}
 use lib.ListN.{length, length-replicate}
-use Rattle.arith.proofs.Flags.{split, clash}
-use Rattle.mesh.specs.declared.Started.{Started}
+use Rattle.arith.proofs.Flags.{split}
 use Rattle.mesh.specs.declared.Started.the-variants.{Accepted, Refused}
-use Rattle.mesh.specs.Tables.{Tables, pointCapacity, cellCapacity, cleared}
-use Rattle.mesh.specs.Check.{legalBox}
+use Rattle.mesh.specs.Tables.{pointCapacity, cellCapacity, cleared}
 use Rattle.mesh.specs.Start.{over, short, startRefusal, startAnswer, startTables, started, startedMesh, startPoints, startCorners, startNeighbours, StartLeaves}
 use Rattle.mesh.specs.Inner.{tables, shortLengths, startRefusalOf}
 

@@ -1,5 +1,5 @@
 -- What the lent lengths leave room for.
-use Prim.Native.Nat.{ℕ, _*_, _/_, _≤_, min}
+use Prim.Native.Nat.{ℕ, _*_, _≤_}
 use native.Mathlib.Omega.{arith}
 use lib.ListN.{length}
 use Rattle.mesh.specs.Tables.{Tables, pointCapacity, cellCapacity}

@@ -1,21 +1,18 @@
 -- A cornerAt of the box is on the inner side of every wall face (M5).
-use Prim.Native.Nat.{ℕ, zero, suc, _+_, _*_, _/_, _%_, _≤_, _<_}
-use mathlib.Core.Logic.{_≢_, _⊎_, inl, inr}
-use mathlib.Core.Path.{_≡_, refl, sym, ap, ap₂, _∙_, subst}
-use native.Mathlib.Omega.{arith}
-use native.Mathlib.Decide.{ℕ-discrete}
-use lib.IntN.{ℤ, pos, negℤ, _+ℤ_, _-ℤ_, _*ℤ_, zero-*ℤ, *ℤ-zero, *ℤ-comm}
+use Prim.Native.Nat.{ℕ, _*_, _≤_, _<_}
+use mathlib.Core.Logic.{_⊎_, inl, inr}
+use mathlib.Core.Path.{_≡_, sym, ap, ap₂, _∙_, subst}
+use lib.IntN.{ℤ, pos, negℤ, _+ℤ_, _-ℤ_, _*ℤ_, *ℤ-zero, *ℤ-comm}
 use lib.Signed.{_<ℤ_, _≤ℤ_}
 use Rattle.arith.specs.Table.{sum}
 use Rattle.arith.proofs.Integers.{*-distl-sub, sub-self}
-use Rattle.arith.proofs.Order.{arithℤ, parts-sub, ≡→≤, <→≤, <-irrefl, <-≤-trans, *-pos, *-nonneg, cancel-nonneg, trichotomy}
+use Rattle.arith.proofs.Order.{arithℤ, parts-sub, <→≤, <-irrefl, <-≤-trans, *-pos, *-nonneg, cancel-nonneg, trichotomy}
 use Rattle.arith.proofs.Sums.{sum-cong, sum-add, sum-neg, sum-times, sum-one}
 use Rattle.geometry.specs.declared.Position.{Position}
 use Rattle.geometry.specs.Volume.{volume, replaced, InBox}
-use Rattle.geometry.proofs.Algebra.{volume-split, cramer-x, cramer-y, cramer-z}
-use Rattle.mesh.specs.Tables.{Tables, none, cellOf, opposite, point, corner, across, cornerAt, cellVolume, side}
+use Rattle.geometry.proofs.Algebra.{volume-split}
+use Rattle.mesh.specs.Tables.{Tables, none, cellOf, opposite, corner, across, cornerAt, cellVolume, side}
 use Rattle.mesh.specs.Mesh.{Wall, low-x, low-y, low-z, high-x, high-y, high-z, along, level, OnWall, IsMesh}
-use Rattle.mesh.proofs.Room.{Room}
 use Rattle.mesh.proofs.FaceNumbers.{opposite<, cell<}
 use Rattle.mesh.proofs.Held.{cramer}
 

@@ -1,6 +1,6 @@
 -- The mesh check, as a test that computes: true for just the tables that are a mesh (`check-is` in proofs/Checked).
 use Prim.Native.Nat.{ℕ, _+_, _*_}
-use mathlib.Core.Bool.{Bool, _&&_, _||_, cond}
+use mathlib.Core.Bool.{Bool, _&&_, cond, _||_}
 use lib.Dec.{leb, ltb, eqb}
 use lib.IntN.{ℤ, pos}
 use lib.Signed.{ltZ, leZ}

@@ -1,8 +1,5 @@
 // The mesh record and its lent tables: start, mesh check, locate.
 
-mod adjacency;
-pub mod checking;
-pub mod locating;
 pub mod starting;
 pub mod tables;
 
@@ -23,10 +20,5 @@ pub struct Cell {
 
 pub enum Started {
     Accepted(Mesh),
-    Refused(u8),
-}
-
-pub enum Located {
-    Cell(u32),
     Refused(u8),
 }

@@ -2,11 +2,15 @@ ghost use mathlib.Core.Path.{_≡_};
 ghost use Prim.Native.Nat.{_≤_, _<_};
 ghost use lib.ListN.{length};
 ghost use Rattle.mesh.specs.Check.{legalSide, legalBox};
-ghost use Rattle.mesh.specs.Start.{over, startPoints, startCorners, startNeighbours, startRefusal, StartLeaves};
+ghost use Rattle.mesh.specs.Start.{over, startPoints, startCorners, startNeighbours, StartLeaves};
 ghost use Rattle.mesh.specs.Inner.{tables, cellAt, shortLengths, startRefusalOf};
-
-use crate::tables::{cell_capacity, clear, point_capacity, store};
-use crate::{Cell, Mesh, Started};
+use crate::Cell;
+use crate::Mesh;
+use crate::Started;
+use crate::tables::cell_capacity;
+use crate::tables::clear;
+use crate::tables::point_capacity;
+use crate::tables::store;
 
 // The corner numbers of the started box's six cells.
 const CELLS: [[u16; 4]; 6] = [
@@ -46,7 +50,32 @@ fn write_cells(corners: &mut [u16], neighbours: &mut [u16])
 fn start_points(x: u32, y: u32, z: u32) -> [u32; 24]
     ensures { λ r. ⌜ r ≡ startPoints x y z ⌝ }
 {
-    [0, 0, 0, x, 0, 0, 0, y, 0, x, y, 0, 0, 0, z, x, 0, z, 0, y, z, x, y, z]
+    [
+        0,
+        0,
+        0,
+        x,
+        0,
+        0,
+        0,
+        y,
+        0,
+        x,
+        y,
+        0,
+        0,
+        0,
+        z,
+        x,
+        0,
+        z,
+        0,
+        y,
+        z,
+        x,
+        y,
+        z,
+    ]
 }
 
 fn write_points(points: &mut [u32], from: [u32; 24])
@@ -91,7 +120,15 @@ pub fn too_short(points: usize, corners: usize, neighbours: usize, work: usize) 
     cell_capacity(corners, neighbours, work) < 6
 }
 
-fn start_refusal(x: u32, y: u32, z: u32, points: usize, corners: usize, neighbours: usize, work: usize) -> u8
+fn start_refusal(
+    x: u32,
+    y: u32,
+    z: u32,
+    points: usize,
+    corners: usize,
+    neighbours: usize,
+    work: usize,
+) -> u8
     ensures { λ r. ⌜ r ≡ startRefusalOf x y z points corners neighbours work ⌝ }
 {
     if too_short(points, corners, neighbours, work) {
@@ -117,7 +154,15 @@ pub fn start(
         r (tables (now (points .exit)) (now (corners .exit)) (now (neighbours .exit))) (now (work .exit)) ⌝ }
 {
     clear(work);
-    let refusal = start_refusal(x, y, z, points.len(), corners.len(), neighbours.len(), work.len());
+    let refusal = start_refusal(
+        x,
+        y,
+        z,
+        points.len(),
+        corners.len(),
+        neighbours.len(),
+        work.len(),
+    );
     if refusal != 0 {
         return Started::Refused(refusal);
     }

@@ -2,7 +2,6 @@ ghost use mathlib.Core.Path.{_≡_};
 ghost use Prim.Native.Nat.{min};
 ghost use Rattle.mesh.specs.Tables.{cleared, pointIn};
 ghost use Rattle.mesh.specs.Inner.{fourAt, withFour, cellAt, HasCell, HasPoint, pointRoom, cellRoom};
-
 use crate::Cell;
 use geometry::Position;
 

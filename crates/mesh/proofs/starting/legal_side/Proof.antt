@@ -1,5 +1,4 @@
 use native.Mathlib.Omega.{arith}
-use mathlib.Core.Path.{_≡_}
 use borrow.Author.Tests.{le-leb, lt-leb}
 use Rattle.mesh.proofs.starting.legal_side.Statement.{statement}
 use Rattle.mesh.proofs.starting.legal_side.Tie as tie

@@ -1,6 +1,6 @@
 use Prim.Native.Nat.{ℕ, _+_, _%_, _<_}
 use mathlib.Core.Path.{_≡_, refl}
-use mathlib.Core.List.{List, [], _∷_}
+use mathlib.Core.List.{List, _∷_, []}
 use lib.ListN.{getD}
 use borrow.Author.Needs.{needs}
 use Rattle.arith.proofs.Flags.{below-six}

@@ -1,4 +1,4 @@
-use mathlib.Core.Path.{_≡_, sym, _∙_}
+use mathlib.Core.Path.{sym, _∙_}
 use borrow.Author.Needs.{needs}
 use Rattle.arith.proofs.Flags.{test-failed, test-passed}
 use Rattle.mesh.specs.Inner.{startRefusalOf}

@@ -14,7 +14,7 @@ use Rattle.mesh.proofs.starting.write_cells.Tie as tie
 abbrev Inv-loop : tie.InvT-loop
 Inv-loop corners₀ neighbours₀ k₀ corners neighbours k =
     (k ≤ 6) × (length corners ≡ length corners₀) × (length neighbours ≡ length neighbours₀)
-        × (corners ≡ take (4 * k) startCorners ++ drop (4 * k) corners₀) × (neighbours ≡ take (4 * k) startNeighbours ++ drop (4 * k) neighbours₀)
+    × (corners ≡ take (4 * k) startCorners ++ drop (4 * k) corners₀) × (neighbours ≡ take (4 * k) startNeighbours ++ drop (4 * k) neighbours₀)
 
 abbrev μ-loop : tie.MeasureT-loop
 μ-loop corners₀ neighbours₀ k₀ corners neighbours k = 6 - k
@@ -44,8 +44,7 @@ loop-again c =
     let corners-are : c .before .before .before .before .store .last .0 ≡ withFour (l .corners) (l .k) (fourAt startCorners (l .k)) =
     stored .0 ∙ ap (withFour (l .corners) (l .k)) (ap (λ x. x .corners) cell) in
     let neighbours-are : c .before .before .before .before .store .last .1 .0 ≡ withFour (l .neighbours) (l .k) (fourAt startNeighbours (l .k)) =
-    stored .1 ∙ ap (withFour (l .neighbours) (l .k)) (ap (λ x. x .neighbours) cell) in
-    (
+    stored .1 ∙ ap (withFour (l .neighbours) (l .k)) (ap (λ x. x .neighbours) cell) in (
       omega arith,
       ap length corners-are ∙ (length-four _ _ _ ∙ l .inv .1),
       ap length neighbours-are ∙ (length-four _ _ _ ∙ l .inv .2),

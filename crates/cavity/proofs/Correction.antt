@@ -1,0 +1,259 @@
+-- The corrected cavity: it has the base, its outer faces are visible or coplanar, and it loses no corner (C1, C2, C3).
+use Prim.Native.Nat.{ℕ, _+_, _*_, _≤_, _<_}
+use mathlib.Core.Bool.{Bool, true, false, not, _&&_, _||_}
+use mathlib.Core.Logic.{_≢_, _⊎_, inl, inr}
+use mathlib.Core.Path.{_≡_, refl, sym, ap, _∙_, subst}
+use mathlib.Core.List.{List}
+use native.Mathlib.Omega.{arith}
+use native.Mathlib.Decide.{ℕ-discrete}
+use lib.ListN.{length}
+use lib.IntN.{pos}
+use lib.Signed.{_<ℤ_, _≤ℤ_}
+use borrow.Author.Tests.{not-true, not-false}
+use Rattle.arith.specs.Table.{anyBelow, iterate}
+use Rattle.arith.proofs.Flags.{split, clash, flag-below, and-left, and-right, and-intro, or-left}
+use Rattle.arith.proofs.Tables.{tabulate-length, tabulate-at}
+use Rattle.arith.proofs.Settling.{iterate-keeps, iterate-stops, clearing-settles}
+use Rattle.arith.proofs.Order.{trichotomy, <-irrefl, <-≤-trans, ≤-<-trans, neg-mono-<}
+use Rattle.geometry.specs.declared.Position.{Position}
+use Rattle.geometry.specs.Volume.{volume, replaced}
+use Rattle.mesh.specs.Tables.{Tables, none, cellOf, opposite, point, corner, across, cornerAt, cellVolume, side, mate}
+use Rattle.mesh.specs.Mesh.{OnFace, IsMesh}
+use Rattle.mesh.proofs.Room.{Room}
+use Rattle.mesh.proofs.Faces.{few, mated, mate-opposite}
+use Rattle.mesh.proofs.FaceNumbers.{face-cell, face-opposite, opposite<, face-eq}
+use Rattle.mesh.proofs.Held.{Holds, side-at, neighbour-holds, other-weight}
+use Rattle.cavity.specs.Cavity.{outer, inSet, base, grown, cavity, visible, coplanar, facesGood, cornersGood, marked, pruned, corrected, correctedCavity, cavityOf}
+use Rattle.locate.specs.Locate.{holds}
+use Rattle.cavity.specs.Starlike.{Seen, Starlike}
+use Rattle.cavity.proofs.Tests.{Outer, outer-of, outer-yes, visible-yes, coplanar-yes, holds-of, holds-yes, faces-good, corners-good}
+
+-- ---- the flags
+
+module _ (t : Tables) (n : ℕ) (p : Position) where
+  pub base-long : length (base t n p) ≡ n
+  unfolding base
+  base-long = tabulate-length n (λ c. holds t p c)
+
+  pub base-at : (c : ℕ) → c < n → inSet (base t n p) c ≡ holds t p c
+  unfolding base
+  base-at c h = tabulate-at n (λ c. holds t p c) c false h
+
+  pub base-below : (c : ℕ) → inSet (base t n p) c ≡ true → c < n
+  base-below c e = omega (arith, flag-below (base t n p) c e, base-long)
+
+  grown-keeps : (yes? : ℕ → Bool) (b s : List Bool) → length b ≡ n → ((c : ℕ) → inSet b c ≡ true → inSet s c ≡ true) → (c : ℕ) → inSet b c ≡ true → inSet (grown t n yes? s) c ≡ true
+  unfolding grown
+  grown-keeps yes? b s l h c e =
+      tabulate-at n (λ c. inSet s c || (yes? c && anyBelow 4 (λ k. inSet s (across t (4 * c + k))))) c false (omega (arith, flag-below b c e)) ∙
+      or-left (inSet s c) (yes? c && anyBelow 4 (λ k. inSet s (across t (4 * c + k)))) (h c e)
+
+  grown-long : (yes? : ℕ → Bool) (s : List Bool) → length (grown t n yes? s) ≡ n
+  unfolding grown
+  grown-long yes? s = tabulate-length n (λ c. inSet s c || (yes? c && anyBelow 4 (λ k. inSet s (across t (4 * c + k)))))
+
+  pub cavity-long : (yes? : ℕ → Bool) (b : List Bool) → length b ≡ n → length (cavity t n yes? b) ≡ n
+  unfolding cavity
+  cavity-long yes? b h = iterate-keeps (grown t n yes?) (λ s. length s ≡ n) (λ s l. grown-long yes? s) n b h
+
+  pub cavity-has : (yes? : ℕ → Bool) (b : List Bool) → length b ≡ n → (c : ℕ) → inSet b c ≡ true → inSet (cavity t n yes? b) c ≡ true
+  unfolding cavity
+  cavity-has yes? b h =
+      iterate-keeps (grown t n yes?) (λ s. (c : ℕ) → inSet b c ≡ true → inSet s c ≡ true) (λ s l. grown-keeps yes? b s h l) n b (λ c e. e)
+
+  module _ (b : List Bool) where
+    pruned-long : (s : List Bool) → length (pruned t n p b s) ≡ n
+    unfolding pruned
+    pruned-long s = tabulate-length n (λ c. inSet s c && not (marked t n p b s c))
+
+    pruned-at : (s : List Bool) (c : ℕ) → c < n → inSet (pruned t n p b s) c ≡ (inSet s c && not (marked t n p b s c))
+    unfolding pruned
+    pruned-at s c h = tabulate-at n (λ c. inSet s c && not (marked t n p b s c)) c false h
+
+    base-unmarked : (s : List Bool) (c : ℕ) → inSet b c ≡ true → marked t n p b s c ≡ false
+    unfolding marked
+    base-unmarked s c e = rw e (go (inSet s c))
+      where
+        go : (x : Bool) → (x && (false && not (facesGood t p s c && cornersGood t n p s c))) ≡ false
+        go true = refl
+        go false = refl
+
+    pub corrected-long : (s : List Bool) → length s ≡ n → length (corrected t n p b s) ≡ n
+    unfolding corrected
+    corrected-long s h = iterate-keeps (pruned t n p b) (λ s. length s ≡ n) (λ s l. pruned-long s) n s h
+
+    -- C1: the base stays
+    pub corrected-has : (s : List Bool) → length b ≡ n → ((c : ℕ) → inSet b c ≡ true → inSet s c ≡ true) → (c : ℕ) → inSet b c ≡ true → inSet (corrected t n p b s) c ≡ true
+    unfolding corrected
+    corrected-has s l h =
+        iterate-keeps (pruned t n p b) (λ s. (c : ℕ) → inSet b c ≡ true → inSet s c ≡ true)
+        (λ r k c e. pruned-at r c (omega (arith, flag-below b c e)) ∙ and-intro (k c e) (ap not (base-unmarked r c e))) n s h
+
+    -- C1: n rounds are enough
+    pub corrected-fixed : (s : List Bool) → length s ≡ n → pruned t n p b (corrected t n p b s) ≡ corrected t n p b s
+    unfolding corrected
+    corrected-fixed s h =
+        clearing-settles n (pruned t n p b) (λ l e. pruned-long l)
+        (λ l e k d q. and-left (inSet l k) (not (marked t n p b l k)) (sym (pruned-at l k d) ∙ q)) s h
+
+    -- code may stop after the first round that marks nothing
+    pub corrected-stops : (s : List Bool) (k : ℕ) → k ≤ n → pruned t n p b (iterate k (pruned t n p b) s) ≡ iterate k (pruned t n p b) s → corrected t n p b s ≡ iterate k (pruned t n p b) s
+    unfolding corrected
+    corrected-stops s k h e = iterate-stops (pruned t n p b) k n s h e
+
+    pub corrected-unmarked : (s : List Bool) → length s ≡ n → (c : ℕ) → inSet (corrected t n p b s) c ≡ true → marked t n p b (corrected t n p b s) c ≡ false
+    corrected-unmarked s h c e =
+        not-true (marked t n p b (corrected t n p b s) c)
+        (and-right (inSet (corrected t n p b s) c) (not (marked t n p b (corrected t n p b s) c))
+        (sym (pruned-at (corrected t n p b s) c (omega (arith, flag-below (corrected t n p b s) c e, corrected-long s h))) ∙
+        (ap (λ r. inSet r c) (corrected-fixed s h) ∙ e)))
+
+    unmarked-good : (s : List Bool) (c : ℕ) → inSet s c ≡ true → inSet b c ≡ false → marked t n p b s c ≡ false → (facesGood t p s c && cornersGood t n p s c) ≡ true
+    unfolding marked
+    unmarked-good s c h k m = not-false (facesGood t p s c && cornersGood t n p s c) (sym (rw (h, k)) ∙ m)
+
+-- ---- C2 and C3
+
+module _ {X Y Z pc cc np n : ℕ} {t : Tables} (M : IsMesh X Y Z pc cc np n t) (R : Room pc cc t)
+    (p : Position) (new : (k : ℕ) → k < np → p ≢ point t k) (s : List Bool) (long : length s ≡ n)
+    (has : (c : ℕ) → inSet (base t n p) c ≡ true → inSet s c ≡ true)
+    (good : (c : ℕ) → inSet s c ≡ true → inSet (base t n p) c ≡ false → (facesGood t p s c && cornersGood t n p s c) ≡ true) where
+  inside : (c : ℕ) → inSet s c ≡ true → c < n
+  inside c e = omega (arith, flag-below s c e)
+
+  held : (c : ℕ) → inSet (base t n p) c ≡ true → Holds t p c
+  held c e = holds-of t p c (sym (base-at t n p c (base-below t n p c e)) ∙ e)
+
+  pub outer-good : (f : ℕ) → f < 4 * n → outer (across t) (inSet s) f ≡ true → (visible t p s f ≡ true) ⊎ (coplanar t p f ≡ true)
+  unfolding Holds
+  outer-good f f< o = go (split (inSet (base t n p) (cellOf f)))
+    where
+      q : Outer t s f
+      q = outer-of t s f o
+
+      go : (inSet (base t n p) (cellOf f) ≡ true) ⊎ (inSet (base t n p) (cellOf f) ≡ false) → (visible t p s f ≡ true) ⊎ (coplanar t p f ≡ true)
+      go (inr b) =
+          subst (λ g. (visible t p s g ≡ true) ⊎ (coplanar t p g ≡ true)) (face-eq f)
+          (faces-good t p s (cellOf f) (opposite f) (and-left (facesGood t p s (cellOf f)) (cornersGood t n p s (cellOf f)) (good (cellOf f) (q .held) b)) (opposite< f)
+          (ap (outer (across t) (inSet s)) (face-eq f) ∙ o))
+      go (inl b) = by (trichotomy (pos 0) (side t p f)) (ℕ-discrete (across t f) none)
+        where
+          not-below : pos 0 ≤ℤ side t p f
+          not-below = subst (λ z. pos 0 ≤ℤ z) (sym (side-at t p (cellOf f) (opposite f) (opposite< f)) ∙ ap (side t p) (face-eq f)) (held (cellOf f) b (opposite f) (opposite< f))
+
+          by : (pos 0 <ℤ side t p f) ⊎ ((pos 0 ≡ side t p f) ⊎ (side t p f <ℤ pos 0)) → Dec (across t f ≡ none) → (visible t p s f ≡ true) ⊎ (coplanar t p f ≡ true)
+          by (inl h) d = inl (visible-yes t p s f o h)
+          by (inr (inl h)) (yes e) = inr (coplanar-yes t p f e (sym h))
+          by (inr (inl h)) (no e) =
+              clash (has (across t f) (base-at t n p (across t f) (M .across< f f< e) ∙
+              holds-yes t p (across t f) (neighbour-holds M R f f< e p (held (cellOf f) b) (sym h)))) (q .free)
+          by (inr (inr h)) d = absurd (<-irrefl (<-≤-trans h not-below))
+
+  pub corner-seen : (c i : ℕ) → inSet s c ≡ true → i < 4 → Seen t n p s (corner t c i)
+  unfolding Holds
+  corner-seen c i e hi = go (split (inSet (base t n p) c))
+    where
+      outside : (c i : ℕ) → inSet s c ≡ true → i < 4 → inSet (base t n p) c ≡ false → Seen t n p s (corner t c i)
+      outside c i e hi b = corners-good t n p s c i (and-right (facesGood t p s c) (cornersGood t n p s c) (good c e b)) hi
+
+      module-c : c < n
+      module-c = inside c e
+
+      away : inSet (base t n p) c ≡ true → (j : ℕ) × (j < 4) × ((j ≢ i) × (pos 0 <ℤ volume (replaced (cornerAt t c) j p)))
+      away b = other-weight (cornerAt t c) p i hi (above c (inside c e)) (held c b) (apart c i (inside c e) hi)
+        where
+          above : (c : ℕ) → c < n → pos 0 <ℤ volume (cornerAt t c)
+          above c h = unfold cellVolume in M .positive c h
+
+          apart : (c i : ℕ) → c < n → i < 4 → p ≢ cornerAt t c i
+          apart c i h k = unfold cornerAt in new (corner t c i) (M .corner< c i h k)
+
+      go : (inSet (base t n p) c ≡ true) ⊎ (inSet (base t n p) c ≡ false) → Seen t n p s (corner t c i)
+      go (inr b) = outside c i e hi b
+      go (inl b) = at (away b)
+        where
+          at : (j : ℕ) × (j < 4) × ((j ≢ i) × (pos 0 <ℤ volume (replaced (cornerAt t c) j p))) → Seen t n p s (corner t c i)
+          at w = by (split (inSet s (across t f)))
+            where
+              f : ℕ
+              f = 4 * c + w .0
+
+              cell-is : cellOf f ≡ c
+              cell-is = face-cell c (w .0) (w .1)
+
+              f< : f < 4 * n
+              f< = omega (arith, inside c e, w .1)
+
+              front : pos 0 <ℤ side t p f
+              front = subst (λ z. pos 0 <ℤ z) (sym (side-at t p c (w .0) (w .1))) (w .2 .1)
+
+              off : i ≢ opposite f
+              off q = w .2 .0 (sym (q ∙ face-opposite c (w .0) (w .1)))
+
+              on : OnFace t f (corner t c i)
+              on = record { place = i; place< = hi; off = off; is = ap (λ x. corner t x i) cell-is }
+
+              by : (inSet s (across t f) ≡ true) ⊎ (inSet s (across t f) ≡ false) → Seen t n p s (corner t c i)
+              by (inr g) = record { face = f; face< = f<; seen = visible-yes t p s f (outer-yes t s f (ap (inSet s) cell-is ∙ e) g) front; on = on }
+              by (inl g) = subst (Seen t n p s) same (outside (cellOf (mate t f)) (shared .place) (ap (inSet s) far ∙ g) (shared .place<) not-base)
+                where
+                  real : across t f ≢ none
+                  real = omega (arith, inside (across t f) g, few M R)
+
+                  far : cellOf (mate t f) ≡ across t f
+                  far = mated M R f f< real .far-cell
+
+                  shared : OnFace t (mate t f) (corner t (cellOf f) i)
+                  shared = mated M R f f< real .same i hi off
+
+                  same : corner t (cellOf (mate t f)) (shared .place) ≡ corner t c i
+                  same = shared .is ∙ ap (λ x. corner t x i) cell-is
+
+                  behind : side t p (mate t f) <ℤ pos 0
+                  behind = subst (λ z. z <ℤ pos 0) (sym (mate-opposite M R f f< real p)) (neg-mono-< front)
+
+                  not-base : inSet (base t n p) (cellOf (mate t f)) ≡ false
+                  not-base = no-base (split (inSet (base t n p) (cellOf (mate t f))))
+                    where
+                      no-base : (inSet (base t n p) (cellOf (mate t f)) ≡ true) ⊎ (inSet (base t n p) (cellOf (mate t f)) ≡ false) → inSet (base t n p) (cellOf (mate t f)) ≡ false
+                      no-base (inr h) = h
+                      no-base (inl h) =
+                          absurd (<-irrefl (≤-<-trans (subst (λ z. pos 0 ≤ℤ z) (sym (side-at t p (cellOf (mate t f)) (opposite (mate t f)) (opposite< (mate t f))) ∙ ap (side t p) (face-eq (mate t f)))
+                          (held (cellOf (mate t f)) h (opposite (mate t f)) (opposite< (mate t f)))) behind))
+
+-- The corrected cavity of a point that some cell holds, whatever the answers.
+module _ {X Y Z pc cc np n : ℕ} {t : Tables} (M : IsMesh X Y Z pc cc np n t) (R : Room pc cc t)
+    (p : Position) (new : (k : ℕ) → k < np → p ≢ point t k) (yes? : ℕ → Bool) (c₀ : ℕ) (some : inSet (base t n p) c₀ ≡ true) where
+  abbrev first : List Bool
+  first = cavityOf t n p yes?
+
+  abbrev last : List Bool
+  last = correctedCavity t n p yes?
+
+  first-long : length first ≡ n
+  unfolding cavityOf
+  first-long = cavity-long t n p yes? (base t n p) (base-long t n p)
+
+  pub cavity-has-base : (c : ℕ) → inSet (base t n p) c ≡ true → inSet first c ≡ true
+  unfolding cavityOf
+  cavity-has-base = cavity-has t n p yes? (base t n p) (base-long t n p)
+
+  last-long : length last ≡ n
+  unfolding correctedCavity
+  last-long = corrected-long t n p (base t n p) first first-long
+
+  last-has : (c : ℕ) → inSet (base t n p) c ≡ true → inSet last c ≡ true
+  unfolding correctedCavity
+  last-has = corrected-has t n p (base t n p) first (base-long t n p) cavity-has-base
+
+  last-good : (c : ℕ) → inSet last c ≡ true → inSet (base t n p) c ≡ false → (facesGood t p last c && cornersGood t n p last c) ≡ true
+  unfolding correctedCavity
+  last-good c e b = unmarked-good t n p (base t n p) last c e b (corrected-unmarked t n p (base t n p) first first-long c e)
+
+  pub corrected-starlike : Starlike t n p last
+  corrected-starlike = record {
+    long = last-long;
+    faces = outer-good M R p new last last-long last-has last-good;
+    corners = corner-seen M R p new last last-long last-has last-good;
+    some = (c₀, last-has c₀ some);
+  }

@@ -1,0 +1,1 @@
+// Base, cavity and correction.

@@ -1,0 +1,292 @@
+-- Side codes: a cell whose corners share a bit lies beyond the position on one side of an axis, and does not hold it.
+use Prim.Native.Nat.{ℕ, zero, suc, _+_, _*_, _-_, _/_, _%_, _^_, _≤_, _<_, min}
+use mathlib.Core.Bool.{Bool, true, false, _&&_, cond, and-true, _||_}
+use mathlib.Core.List.{List}
+use mathlib.Core.Logic.{_≢_, _⊎_, inl, inr}
+use mathlib.Core.Path.{_≡_, refl, sym, ap, ap₂, _∙_, subst}
+use native.Mathlib.Omega.{arith}
+use native.Mathlib.Decide.{ℕ-discrete}
+use borrow.Author.Tests.{ltb-true, eqb-true, lt-ltb, eq-eqb, ne-eqb}
+use lib.Dec.{ltb, eqb}
+use lib.Bits.{bitAnd, and-shr, and-mod, and-le-l}
+use lib.ListN.{length, getD, set}
+use lib.IntN.{ℤ, pos, _*ℤ_}
+use lib.Signed.{_<ℤ_, _≤ℤ_, leZ, ltZ}
+use mir.Syntax.{w64}
+use mir.Val.{boolByte}
+use Rattle.arith.specs.Table.{tabulate, allBelow, anyBelow, sum}
+use Rattle.arith.proofs.Flags.{split, fails, bool-ext, or-cases, below-four, below-six}
+use Rattle.arith.proofs.Machine.{back}
+use Rattle.arith.proofs.Order.{arithℤ, total, leZ-true, ltZ-yes-leZ, ltZ-no-leZ, ≤-<-trans, <-irrefl, *-mono-≤-l, *-mono-<-l}
+use Rattle.arith.proofs.Sums.{sum-mono, sum-times}
+use Rattle.arith.proofs.Tables.{tabulate-at, tabulate-length, set-tabulate, all-cong, all-at, any-found, Found, find}
+use Rattle.geometry.specs.declared.Position.{Position}
+use Rattle.geometry.specs.declared.Volumes.{Volumes}
+use Rattle.geometry.specs.Volume.{InRange, volume, replaced}
+use Rattle.geometry.specs.Inner.{volumesAt}
+use Rattle.geometry.proofs.Algebra.{volume-cong, volume-split}
+use Rattle.geometry.proofs.Promises.{held-volume}
+use Rattle.mesh.specs.Tables.{Tables, pointIn, cornerAt, side}
+use Rattle.mesh.specs.Mesh.{Wall, low-x, low-y, low-z, along}
+use Rattle.mesh.specs.Inner.{tables, fourAt, Solid}
+use Rattle.mesh.proofs.FaceNumbers.{face-cell, face-opposite}
+use Rattle.mesh.proofs.Numbers.{byte≤, four-entry, four-corner, four-volume}
+use Rattle.mesh.proofs.Held.{cramer}
+use Rattle.locate.specs.Inner.{axisCode, sideCode, sideCodes, sharedBits, holdsFour, Coded}
+use Rattle.locate.specs.Locate.{holds}
+
+-- ---- a cell that holds q has q in its bounding box
+
+module _ (w : Wall) (s : ℕ → Position) (q : Position) (h : pos 0 <ℤ volume s)
+    (held : (k : ℕ) → k < 4 → pos 0 ≤ℤ volume (replaced s k q)) where
+  level-sum : (b : ℕ) → sum 4 (λ k. volume (replaced s k q) *ℤ pos b) ≡ volume s *ℤ pos b
+  level-sum b = sum-times 4 (λ k. volume (replaced s k q)) (pos b) ∙ ap (λ z. z *ℤ pos b) (volume-split s q)
+
+  pub most : (b : ℕ) → ((k : ℕ) → k < 4 → along w (s k) ≤ b) → along w q ≤ b
+  most b each = go (total (pos (along w q)) (pos b))
+    where
+      go : (pos (along w q) ≤ℤ pos b) ⊎ (pos b <ℤ pos (along w q)) → along w q ≤ b
+      go (inl l) = omega (arithℤ, l)
+      go (inr l) =
+          absurd (<-irrefl (≤-<-trans
+          (subst (λ z. (volume s *ℤ pos (along w q)) ≤ℤ z) (level-sum b)
+          (subst (λ z. z ≤ℤ sum 4 (λ k. volume (replaced s k q) *ℤ pos b)) (cramer w s q)
+          (sum-mono 4 (λ k. volume (replaced s k q) *ℤ pos (along w (s k))) (λ k. volume (replaced s k q) *ℤ pos b)
+          (λ k j. *-mono-≤-l (held k j) (omega (arithℤ, each k j))))))
+          (*-mono-<-l h l)))
+
+  pub least : (b : ℕ) → ((k : ℕ) → k < 4 → b ≤ along w (s k)) → b ≤ along w q
+  least b each = go (total (pos b) (pos (along w q)))
+    where
+      go : (pos b ≤ℤ pos (along w q)) ⊎ (pos (along w q) <ℤ pos b) → b ≤ along w q
+      go (inl l) = omega (arithℤ, l)
+      go (inr l) =
+          absurd (<-irrefl (≤-<-trans
+          (subst (λ z. z ≤ℤ (volume s *ℤ pos (along w q))) (level-sum b)
+          (subst (λ z. sum 4 (λ k. volume (replaced s k q) *ℤ pos b) ≤ℤ z) (cramer w s q)
+          (sum-mono 4 (λ k. volume (replaced s k q) *ℤ pos b) (λ k. volume (replaced s k q) *ℤ pos (along w (s k)))
+          (λ k j. *-mono-≤-l (held k j) (omega (arithℤ, each k j))))))
+          (*-mono-<-l h l)))
+
+-- ---- bits
+
+pub axis≤ : (a b : ℕ) → axisCode a b ≤ 3
+unfolding axisCode
+axis≤ a b = omega (arith, byte≤ (ltb a b), byte≤ (ltb b a))
+
+code< : (p q : Position) → sideCode p q < 64
+unfolding sideCode
+code< p q = omega (arith, axis≤ (p .x) (q .x), axis≤ (p .y) (q .y), axis≤ (p .z) (q .z))
+
+-- bit j of a code
+beyond : ℕ → Position → Position → Bool
+beyond zero p q = ltb (p .x) (q .x)
+beyond (suc zero) p q = ltb (q .x) (p .x)
+beyond (suc (suc zero)) p q = ltb (p .y) (q .y)
+beyond (suc (suc (suc zero))) p q = ltb (q .y) (p .y)
+beyond (suc (suc (suc (suc zero)))) p q = ltb (p .z) (q .z)
+beyond (suc (suc (suc (suc (suc j))))) p q = ltb (q .z) (p .z)
+
+bit-is : (p q : Position) (j : ℕ) → j < 6 → sideCode p q / 2 ^ j % 2 ≡ boolByte (beyond j p q)
+unfolding sideCode axisCode beyond
+bit-is p q =
+    let x = byte≤ (ltb (p .x) (q .x)) in
+    let x′ = byte≤ (ltb (q .x) (p .x)) in
+    let y = byte≤ (ltb (p .y) (q .y)) in
+    let y′ = byte≤ (ltb (q .y) (p .y)) in
+    let z = byte≤ (ltb (p .z) (q .z)) in
+    let z′ = byte≤ (ltb (q .z) (p .z)) in
+    below-six (λ j. sideCode p q / 2 ^ j % 2 ≡ boolByte (beyond j p q))
+    (omega (arith, x, x′, y, y′, z, z′)) (omega (arith, x, x′, y, y′, z, z′)) (omega (arith, x, x′, y, y′, z, z′))
+    (omega (arith, x, x′, y, y′, z, z′)) (omega (arith, x, x′, y, y′, z, z′)) (omega (arith, x, x′, y, y′, z, z′))
+
+and-bit : (a b j : ℕ) → bitAnd a b / 2 ^ j % 2 ≡ min (a / 2 ^ j % 2) (b / 2 ^ j % 2)
+and-bit a b j = ap (λ z. z % 2) (and-shr a b j) ∙ (and-mod (a / 2 ^ j) (b / 2 ^ j) 1 ∙ small (a / 2 ^ j % 2) (b / 2 ^ j % 2) (omega arith) (omega arith))
+  where
+    small : (x y : ℕ) → x < 2 → y < 2 → bitAnd x y ≡ min x y
+    small zero zero h k = refl
+    small zero (suc zero) h k = refl
+    small (suc zero) zero h k = refl
+    small (suc zero) (suc zero) h k = refl
+    small zero (suc (suc y)) h k = absurd (omega arith)
+    small (suc zero) (suc (suc y)) h k = absurd (omega arith)
+    small (suc (suc x)) y h k = absurd (omega arith)
+
+some-bit : allBelow 64 (λ a. eqb a 0 || anyBelow 6 (λ j. eqb (a / 2 ^ j % 2) 1)) ≡ true
+unfolding allBelow anyBelow
+some-bit = refl
+
+no-bit : (a : ℕ) → a < 64 → ((j : ℕ) → j < 6 → a / 2 ^ j % 2 ≡ 0) → a ≡ 0
+no-bit a h z = go (or-cases (eqb a 0) (anyBelow 6 (λ j. eqb (a / 2 ^ j % 2) 1)) (all-at 64 (λ a. eqb a 0 || anyBelow 6 (λ j. eqb (a / 2 ^ j % 2) 1)) some-bit a h))
+  where
+    by : Found 6 (λ j. eqb (a / 2 ^ j % 2) 1) → ⊥
+    by r = let e = z (r .at) (r .below) in let f = eqb-true (a / 2 ^ r .at % 2) 1 (r .passes) in absurd (omega (arith, e, f))
+
+    go : (eqb a 0 ≡ true) ⊎ (anyBelow 6 (λ j. eqb (a / 2 ^ j % 2) 1) ≡ true) → a ≡ 0
+    go (inl e) = eqb-true a 0 e
+    go (inr e) = absurd (by (any-found 6 (λ j. eqb (a / 2 ^ j % 2) 1) e))
+
+-- no bit is shared by the codes of four corners that are not all beyond q on one side
+shared-none : (a b c d : ℕ) → a < 64 → ((j : ℕ) → j < 6 → (a / 2 ^ j % 2 ≡ 0) ⊎ ((b / 2 ^ j % 2 ≡ 0) ⊎ ((c / 2 ^ j % 2 ≡ 0) ⊎ (d / 2 ^ j % 2 ≡ 0)))) →
+    bitAnd (bitAnd (bitAnd a b) c) d ≡ 0
+shared-none a b c d h each =
+    no-bit (bitAnd (bitAnd (bitAnd a b) c) d)
+    (omega (arith, and-le-l (bitAnd (bitAnd a b) c) d, and-le-l (bitAnd a b) c, and-le-l a b))
+    (λ j l. and-bit (bitAnd (bitAnd a b) c) d j ∙
+    (ap (λ z. min z (d / 2 ^ j % 2)) (and-bit (bitAnd a b) c j ∙ ap (λ z. min z (c / 2 ^ j % 2)) (and-bit a b j)) ∙ go j (each j l)))
+  where
+    go : (j : ℕ) → (a / 2 ^ j % 2 ≡ 0) ⊎ ((b / 2 ^ j % 2 ≡ 0) ⊎ ((c / 2 ^ j % 2 ≡ 0) ⊎ (d / 2 ^ j % 2 ≡ 0))) →
+        min (min (min (a / 2 ^ j % 2) (b / 2 ^ j % 2)) (c / 2 ^ j % 2)) (d / 2 ^ j % 2) ≡ 0
+    go j (inl e) = omega (arith, e)
+    go j (inr (inl e)) = omega (arith, e)
+    go j (inr (inr (inl e))) = omega (arith, e)
+    go j (inr (inr (inr e))) = omega (arith, e)
+
+-- ---- the law
+
+-- not all four corners are beyond q on one side of an axis
+some-not : (s : ℕ → Position) (q : Position) → pos 0 <ℤ volume s → ((k : ℕ) → k < 4 → pos 0 ≤ℤ volume (replaced s k q)) →
+    (j : ℕ) → j < 6 → ((k : ℕ) → k < 4 → beyond j (s k) q ≡ true) → ⊥
+unfolding beyond
+some-not s q h held =
+    below-six (λ j. ((k : ℕ) → k < 4 → beyond j (s k) q ≡ true) → ⊥)
+    (λ e. no-less low-x (λ k l. ltb-true _ _ (e k l)))
+    (λ e. no-more low-x (λ k l. ltb-true _ _ (e k l)))
+    (λ e. no-less low-y (λ k l. ltb-true _ _ (e k l)))
+    (λ e. no-more low-y (λ k l. ltb-true _ _ (e k l)))
+    (λ e. no-less low-z (λ k l. ltb-true _ _ (e k l)))
+    (λ e. no-more low-z (λ k l. ltb-true _ _ (e k l)))
+  where
+    no-less : (w : Wall) → ((k : ℕ) → k < 4 → along w (s k) < along w q) → ⊥
+    no-less w e = let m = most w s q h held (along w q - 1) (λ k l. omega (arith, e k l)) in absurd (omega (arith, m, e 0 (omega arith)))
+
+    no-more : (w : Wall) → ((k : ℕ) → k < 4 → along w q < along w (s k)) → ⊥
+    no-more w e = let m = least w s q h held (suc (along w q)) e in absurd (omega arith)
+
+swap : {A B : Type 0} → A ⊎ B → B ⊎ A
+swap (inl a) = inr a
+swap (inr b) = inl b
+
+bit-off : (b : Bool) → b ≡ false → boolByte b ≡ 0
+bit-off b e = rw e
+
+pub apart : (ps codes k : List ℕ) (q : Position) → Coded ps codes k q → sharedBits codes k ≢ 0 → holdsFour ps k q ≡ false
+unfolding sharedBits holdsFour
+apart ps codes k q C d = fails (holdsFour ps k q) (λ e. d (none-shared e))
+  where
+    s : ℕ → Position
+    s i = pointIn ps (getD k i 0)
+
+    code : ℕ → ℕ
+    code i = getD codes (getD k i 0) 0
+
+    off : (j i : ℕ) → j < 6 → i < 4 → beyond j (s i) q ≡ false → code i / 2 ^ j % 2 ≡ 0
+    off j i hj hi e = ap (λ z. z / 2 ^ j % 2) (C .code i hi) ∙ (bit-is (s i) q j hj ∙ bit-off (beyond j (s i) q) e)
+
+    none-shared : holdsFour ps k q ≡ true → bitAnd (bitAnd (bitAnd (code 0) (code 1)) (code 2)) (code 3) ≡ 0
+    none-shared e = shared-none (code 0) (code 1) (code 2) (code 3) (subst (λ z. z < 64) (sym (C .code 0 (omega arith))) (code< (s 0) q)) (λ j l. go j l (find 4 (λ i. beyond j (s i) q ≡ false) (λ i. beyond j (s i) q ≡ true) (λ i h. swap (split (beyond j (s i) q)))))
+      where
+        go : (j : ℕ) → j < 6 → ((i : ℕ) × (i < 4) × (beyond j (s i) q ≡ false)) ⊎ ((i : ℕ) → i < 4 → beyond j (s i) q ≡ true) →
+            (code 0 / 2 ^ j % 2 ≡ 0) ⊎ ((code 1 / 2 ^ j % 2 ≡ 0) ⊎ ((code 2 / 2 ^ j % 2 ≡ 0) ⊎ (code 3 / 2 ^ j % 2 ≡ 0)))
+        go j l (inl r) = below-four (λ i. code i / 2 ^ j % 2 ≡ 0 → (code 0 / 2 ^ j % 2 ≡ 0) ⊎ ((code 1 / 2 ^ j % 2 ≡ 0) ⊎ ((code 2 / 2 ^ j % 2 ≡ 0) ⊎ (code 3 / 2 ^ j % 2 ≡ 0))))
+            inl (λ z. inr (inl z)) (λ z. inr (inr (inl z))) (λ z. inr (inr (inr z))) (r .0) (r .1) (off j (r .0) l (r .1) (r .2))
+        go j l (inr all) = absurd (some-not s q (C .positive) (λ i h. leZ-true (pos 0) _ (all-at 4 (λ i. leZ (pos 0) (volume (replaced s i q))) e i h)) j l all)
+
+-- ---- the four volumes as the code holds them
+
+abbrev pub volumeAt : Volumes → ℕ → ℤ
+volumeAt v i = cond (eqb i 0) (v .v0) (cond (eqb i 1) (v .v1) (cond (eqb i 2) (v .v2) (v .v3)))
+
+module _ (ps k : List ℕ) (q : Position) where
+  abbrev s : ℕ → Position
+  s i = pointIn ps (getD k i 0)
+
+  pub measured : {v : Volumes} {a b c d : Position} → a ≡ s 0 → b ≡ s 1 → c ≡ s 2 → d ≡ s 3 → v ≡ volumesAt a b c d q →
+      ((i : ℕ) → i < 4 → InRange (s i)) → InRange q → (i : ℕ) → i < 4 → back w64 (volumeAt v i) ≡ volume (replaced s i q)
+  unfolding volumesAt volume
+  measured {v} ea eb ec ed e h hq =
+      let w : v ≡ volumesAt (s 0) (s 1) (s 2) (s 3) q = e ∙ (λ i. volumesAt (ea i) (eb i) (ec i) (ed i) q) in
+      let h₀ = h 0 (omega arith) in
+      let h₁ = h 1 (omega arith) in
+      let h₂ = h 2 (omega arith) in
+      let h₃ = h 3 (omega arith) in
+      below-four (λ i. back w64 (volumeAt v i) ≡ volume (replaced s i q))
+      (held-volume q (s 1) (s 2) (s 3) (ap (λ u. u .v0) w) hq h₁ h₂ h₃ .is)
+      (held-volume (s 0) q (s 2) (s 3) (ap (λ u. u .v1) w) h₀ hq h₂ h₃ .is)
+      (held-volume (s 0) (s 1) q (s 3) (ap (λ u. u .v2) w) h₀ h₁ hq h₃ .is)
+      (held-volume (s 0) (s 1) (s 2) q (ap (λ u. u .v3) w) h₀ h₁ h₂ hq .is)
+
+  -- the tests as they are made, from the last volume to the first
+  module _ (z : ℕ → ℤ) (is : (i : ℕ) → i < 4 → z i ≡ volume (replaced s i q)) where
+    tests : holdsFour ps k q ≡ (leZ (pos 0) (z 3) && (leZ (pos 0) (z 2) && (leZ (pos 0) (z 1) && leZ (pos 0) (z 0))))
+    unfolding holdsFour allBelow
+    tests =
+        rw and-true
+        (sym (λ i. leZ (pos 0) (is 3 (omega arith) i) && (leZ (pos 0) (is 2 (omega arith) i) && (leZ (pos 0) (is 1 (omega arith) i) && leZ (pos 0) (is 0 (omega arith) i)))))
+
+    pub fourth-fails : ltZ (z 3) (pos 0) ≡ true → false ≡ holdsFour ps k q
+    fourth-fails a = sym (tests ∙ rw (ltZ-yes-leZ (pos 0) (z 3) a))
+
+    pub third-fails : ltZ (z 3) (pos 0) ≡ false → ltZ (z 2) (pos 0) ≡ true → false ≡ holdsFour ps k q
+    third-fails a b = sym (tests ∙ rw (ltZ-no-leZ (pos 0) (z 3) a, ltZ-yes-leZ (pos 0) (z 2) b))
+
+    pub second-fails : ltZ (z 3) (pos 0) ≡ false → ltZ (z 2) (pos 0) ≡ false → ltZ (z 1) (pos 0) ≡ true → false ≡ holdsFour ps k q
+    second-fails a b c = sym (tests ∙ rw (ltZ-no-leZ (pos 0) (z 3) a, ltZ-no-leZ (pos 0) (z 2) b, ltZ-yes-leZ (pos 0) (z 1) c))
+
+    pub first-decides : ltZ (z 3) (pos 0) ≡ false → ltZ (z 2) (pos 0) ≡ false → ltZ (z 1) (pos 0) ≡ false → leZ (pos 0) (z 0) ≡ holdsFour ps k q
+    first-decides a b c = sym (tests ∙ rw (ltZ-no-leZ (pos 0) (z 3) a, ltZ-no-leZ (pos 0) (z 2) b, ltZ-no-leZ (pos 0) (z 1) c))
+
+-- ---- the codes, point by point
+
+pub codes-more : (ps : List ℕ) (v : ℕ) (q : Position) → v < 1024 → set (sideCodes ps v q) v (sideCode (pointIn ps v) q) ≡ sideCodes ps (v + 1) q
+unfolding sideCodes
+codes-more ps v q h = set-tabulate 1024 (λ k. cond (ltb k v) (code k) 0) v (code v) h ∙ ap (tabulate 1024) (λ i k. at k (ℕ-discrete v k) i)
+  where
+    code : ℕ → ℕ
+    code k = sideCode (pointIn ps k) q
+
+    at : (k : ℕ) → Dec (v ≡ k) → cond (eqb v k) (code v) (cond (ltb k v) (code k) 0) ≡ cond (ltb k (v + 1)) (code k) 0
+    at k (yes e) = rw (eq-eqb v k e, lt-ltb k (v + 1) (omega arith)) (ap code e)
+    at k (no d) = rw (ne-eqb v k d) (ap (λ b. cond b (code k) 0) (bool-ext (ltb k v) (ltb k (v + 1))
+        (λ e. lt-ltb k (v + 1) (omega (arith, ltb-true k v e))) (λ e. lt-ltb k v (omega (arith, ltb-true k (v + 1) e)))))
+
+pub codes-length : (ps : List ℕ) (np : ℕ) (q : Position) → length (sideCodes ps np q) ≡ 1024
+unfolding sideCodes
+codes-length ps np q = tabulate-length 1024 (λ v. cond (ltb v np) (sideCode (pointIn ps v) q) 0)
+
+pub code-at : (ps : List ℕ) (np : ℕ) (q : Position) → np ≤ 1024 → (v : ℕ) → v < np → getD (sideCodes ps np q) v 0 ≡ sideCode (pointIn ps v) q
+unfolding sideCodes
+code-at ps np q h v l = tabulate-at 1024 (λ v. cond (ltb v np) (sideCode (pointIn ps v) q) 0) v 0 (omega arith) ∙ rw (lt-ltb v np l)
+
+-- ---- a cell of solid tables
+
+pub coded : (ps cs : List ℕ) (np n : ℕ) (q : Position) → Solid ps cs np n → InRange q → {codes : List ℕ} → codes ≡ sideCodes ps np q →
+    (c : ℕ) → c < n → {k : List ℕ} → k ≡ fourAt cs c → Coded ps codes k q
+coded ps cs np n q S hq {codes} ec c hc {k} ek =
+    subst (λ k. Coded ps codes k q) (sym ek) (subst (λ codes. Coded ps codes (fourAt cs c) q) (sym ec)
+    record {
+      has = λ i h. record { few = omega (arith, S .placed .points-few, corner< i h); fits = omega (arith, S .placed .points-fit, corner< i h) };
+      in-range = λ i h. S .placed .in-range (getD (fourAt cs c) i 0) (corner< i h);
+      code< = λ i h. subst (λ m. getD (fourAt cs c) i 0 < m) (sym (codes-length ps np q)) (omega (arith, S .placed .points-few, corner< i h));
+      code = λ i h. code-at ps np q (S .placed .points-few) (getD (fourAt cs c) i 0) (corner< i h);
+      position = hq;
+      positive = subst (λ z. pos 0 <ℤ z) (sym (four-volume ps cs c)) (S .positive c hc);
+    })
+  where
+    corner< : (i : ℕ) → i < 4 → getD (fourAt cs c) i 0 < np
+    corner< i h = subst (λ m. m < np) (sym (four-entry cs c i h)) (S .below (4 * c + i) (omega arith))
+
+pub holds-is : (ps cs ns : List ℕ) (c : ℕ) (q : Position) → holdsFour ps (fourAt cs c) q ≡ holds (tables ps cs ns) q c
+unfolding holdsFour holds side cornerAt
+holds-is ps cs ns c q =
+    all-cong 4 (λ i. leZ (pos 0) (volume (replaced (λ j. pointIn ps (getD (fourAt cs c) j 0)) i q))) (λ i. leZ (pos 0) (side t q (4 * c + i)))
+    (λ i h. ap (leZ (pos 0)) (face i h))
+  where
+    t : Tables
+    t = tables ps cs ns
+
+    face : (i : ℕ) → i < 4 → volume (replaced (λ j. pointIn ps (getD (fourAt cs c) j 0)) i q) ≡ side t q (4 * c + i)
+    face i h =
+        volume-cong (replaced (λ j. pointIn ps (getD (fourAt cs c) j 0)) i q) (replaced (cornerAt t c) i q)
+        (λ j l. ap (λ v. cond (eqb j i) q (pointIn ps v)) (four-corner t c j l)) ∙
+        sym (ap₂ (λ d j. volume (replaced (cornerAt t d) j q)) (face-cell c i h) (face-opposite c i h))

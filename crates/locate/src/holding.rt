@@ -1,0 +1,73 @@
+ghost use mathlib.Core.Path.{_≡_};
+ghost use Prim.Native.Nat.{_≤_, _<_, _*_};
+ghost use lib.ListN.{length, getD};
+ghost use Rattle.locate.specs.Locate.{holds};
+ghost use Rattle.locate.specs.Inner.{axisCode, sideCode, sideCodes, sharedBits, holdsFour, Coded};
+use geometry::Position;
+use geometry::volume::volumes_at;
+use mesh::tables::point_at;
+
+fn axis_code(a: u32, b: u32) -> u8
+    ensures { λ r. ⌜ r ≡ axisCode a b ⌝ }
+{
+    ((a < b) as u8) + 2 * ((b < a) as u8)
+}
+
+fn side_code(p: Position, q: Position) -> u8
+    ensures { λ r. ⌜ r ≡ sideCode p q ⌝ }
+{
+    axis_code(p.x, q.x) + 4 * axis_code(p.y, q.y) + 16 * axis_code(p.z, q.z)
+}
+
+// Six bits a point: below or above q on each axis.
+pub fn side_codes(points: &[u32], np: usize, q: Position) -> [u8; 1024]
+    requires { ⌜ (np ≤ 1024) × (3 * np ≤ length (now points)) ⌝ }
+    ensures { λ r. ⌜ r ≡ sideCodes (now (points .entry)) np q ⌝ }
+{
+    let mut codes = [0u8; 1024];
+    let mut v: usize = 0;
+    while v < np {
+        codes[v] = side_code(point_at(points, v), q);
+        v += 1;
+    }
+    codes
+}
+
+fn shared_bits(codes: &[u8], k: [u16; 4]) -> u8
+    requires { ⌜ (getD k 0 0 < length (now codes)) × (getD k 1 0 < length (now codes))
+        × (getD k 2 0 < length (now codes)) × (getD k 3 0 < length (now codes)) ⌝ }
+    ensures { λ r. ⌜ r ≡ sharedBits (now (codes .entry)) k ⌝ }
+{
+    codes[k[0] as usize] & codes[k[1] as usize] & codes[k[2] as usize] & codes[k[3] as usize]
+}
+
+// Whether a cell holds q. Where all its corners are beyond q on one side of an axis, it does not, and no volume is worked out.
+pub fn cell_holds(points: &[u32], codes: &[u8], k: [u16; 4], q: Position) -> bool
+    requires { ⌜ Coded (now points) (now codes) k q ⌝ }
+    ensures { λ r. ⌜ r ≡ holdsFour (now (points .entry)) k q ⌝ }
+{
+    if shared_bits(codes, k) != 0 {
+        return false;
+    }
+    let v = volumes_at(
+        point_at(points, k[0] as usize),
+        point_at(points, k[1] as usize),
+        point_at(points, k[2] as usize),
+        point_at(points, k[3] as usize),
+        q,
+    );
+    let v0 = v.v0;
+    let v1 = v.v1;
+    let v2 = v.v2;
+    let v3 = v.v3;
+    if v3 < 0 {
+        return false;
+    }
+    if v2 < 0 {
+        return false;
+    }
+    if v1 < 0 {
+        return false;
+    }
+    0 <= v0
+}

@@ -1,0 +1,62 @@
+ghost use mathlib.Core.List.{[]};
+ghost use mathlib.Core.Path.{_≡_};
+ghost use Prim.Native.Nat.{_<_};
+ghost use lib.ListN.{length};
+ghost use Rattle.arith.specs.Table.{firstBelow};
+ghost use Rattle.geometry.specs.Volume.{InRange};
+ghost use Rattle.mesh.specs.Tables.{cleared};
+ghost use Rattle.mesh.specs.Inner.{tables, Solid};
+ghost use Rattle.locate.specs.Locate.{holds, locateCall};
+use crate::Located;
+use crate::holding::cell_holds;
+use crate::holding::side_codes;
+use geometry::Position;
+use geometry::volume::in_box;
+use mesh::Mesh;
+use mesh::tables::clear;
+use mesh::tables::four_at;
+use meshcheck::refusals::mesh_refusal;
+
+// The lowest-numbered cell that holds q; the cell count where none does.
+fn first_holder(points: &[u32], corners: &[u16], np: usize, n: usize, q: Position) -> usize
+    requires { ⌜ Solid (now points) (now corners) np n × InRange q ⌝ }
+    ensures { λ r. ⌜ r ≡ firstBelow n (holds (tables (now (points .entry)) (now (corners .entry)) []) q) ⌝ }
+{
+    let codes = side_codes(points, np, q);
+    let mut c: usize = 0;
+    while c < n {
+        if cell_holds(points, &codes, four_at(corners, c), q) {
+            return c;
+        }
+        c += 1;
+    }
+    n
+}
+
+// The lowest-numbered cell that holds the position.
+pub fn locate(
+    mesh: Mesh,
+    points: &[u32],
+    corners: &[u16],
+    neighbours: &[u16],
+    work: &mut [u16],
+    q: Position,
+) -> Located
+    ensures { λ r. ⌜ (r ≡ locateCall mesh (tables (now (points .entry)) (now (corners .entry)) (now (neighbours .entry))) (length (now (work .entry))) q)
+        × (now (work .exit) ≡ cleared (now (work .entry))) ⌝ }
+{
+    clear(work);
+    let refusal = mesh_refusal(mesh, points, corners, neighbours, work.len(), false);
+    if refusal != 0 {
+        return Located::Refused(refusal);
+    }
+    if !in_box(mesh.x, mesh.y, mesh.z, q) {
+        return Located::Refused(4);
+    }
+    let n = mesh.cells as usize;
+    let c = first_holder(points, corners, mesh.points as usize, n, q);
+    if c == n {
+        return Located::Refused(7);
+    }
+    Located::Cell(c as u32)
+}

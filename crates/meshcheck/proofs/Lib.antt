@@ -1,0 +1,3 @@
+-- From the tests that the code makes to the mesh check.
+pub mod Tally
+pub mod Verdict

@@ -1,0 +1,1 @@
+// The star of a cavity: new cells, neighbours and order.
