@@ -10,7 +10,7 @@ use native.Mathlib.Nat.{add-zero, add-suc, suc-add, zero-add}
 use lib.ListN.{length, getD, length-append, List·getD-append}
 use lib.Seq.{getD-at}
 use Rattle.arith.specs.Table.{countBelow, selectFrom, selectBelow}
-use Rattle.arith.proofs.Flags.{split}
+use Rattle.arith.proofs.Flags.{split, clash}
 
 abbrev tail : ℕ → (ℕ → Bool) → List ℕ
 tail k p = cond (p k) (k ∷ []) []
@@ -63,6 +63,22 @@ count-lt k n p h e = omega (arith, count-yes k p e, count-mono (suc k) n p h)
 pub count-le : (n : ℕ) (p : ℕ → Bool) → countBelow n p ≤ n
 count-le n p = omega (arith, count-not n p)
 
+pub count-cong : (n : ℕ) (p q : ℕ → Bool) → ((k : ℕ) → k < n → p k ≡ q k) → countBelow n p ≡ countBelow n q
+unfolding countBelow
+count-cong zero p q h = refl
+count-cong (suc n) p q h = ap₂ (λ b m. cond b 1 0 + m) (h n (omega arith)) (count-cong n p q (λ k l. h k (omega arith)))
+
+pub count-none : (n : ℕ) (p : ℕ → Bool) → ((k : ℕ) → k < n → p k ≡ false) → countBelow n p ≡ 0
+unfolding countBelow
+count-none zero p h = refl
+count-none (suc n) p h = rw (h n (omega arith), count-none n p (λ k l. h k (omega arith)))
+
+-- a count in two stretches
+pub count-append : (a b : ℕ) (p : ℕ → Bool) → countBelow (a + b) p ≡ countBelow a p + countBelow b (λ k. p (a + k))
+unfolding countBelow
+count-append a zero p = rw add-zero (sym (add-zero (countBelow a p)))
+count-append a (suc b) p = rw (add-suc a b, count-append a b p) (omega arith)
+
 pub select-length : (n : ℕ) (p : ℕ → Bool) → length (selectBelow n p) ≡ countBelow n p
 unfolding countBelow selectBelow selectFrom
 select-length zero p = refl
@@ -114,3 +130,48 @@ select-picks (suc n) p r h = go (λ l. select-picks n p r l) (split (p n)) (ℕ-
         let l : r < countBelow n p = omega (arith, count-yes n p t) in
         rw (select-yes n p t, List·getD-append (selectBelow n p) (n ∷ []) 0 r (omega (arith, select-length n p))) (wider (ih l))
     go ih (inr t) d = rw (select-no n p t) (wider (ih (omega (arith, count-no n p t))))
+
+-- one number more passes
+pub count-added : (n : ℕ) (p q : ℕ → Bool) (c : ℕ) → c < n → p c ≡ false → q c ≡ true → ((k : ℕ) → k < n → k ≢ c → q k ≡ p k) →
+    countBelow n q ≡ suc (countBelow n p)
+count-added zero p q c h a b e = absurd (omega arith)
+count-added (suc n) p q c h a b e = go (λ l. count-added n p q c l a b (λ k m. e k (omega arith))) (ℕ-discrete c n)
+  where
+    go : (c < n → countBelow n q ≡ suc (countBelow n p)) → Dec (c ≡ n) → countBelow (suc n) q ≡ suc (countBelow (suc n) p)
+    go ih (yes r) =
+        count-yes n q (ap q (sym r) ∙ b) ∙
+        ap suc (count-cong n q p (λ k l. e k (omega arith) (omega (arith, r))) ∙ sym (count-no n p (ap p (sym r) ∙ a)))
+    go ih (no d) = by (ih (omega arith)) (split (p n))
+      where
+        same : q n ≡ p n
+        same = e n (omega arith) (λ r. d (sym r))
+
+        by : countBelow n q ≡ suc (countBelow n p) → (p n ≡ true) ⊎ (p n ≡ false) → countBelow (suc n) q ≡ suc (countBelow (suc n) p)
+        by i (inl r) = count-yes n q (same ∙ r) ∙ (ap suc i ∙ ap suc (sym (count-yes n p r)))
+        by i (inr r) = count-no n q (same ∙ r) ∙ (i ∙ ap suc (sym (count-no n p r)))
+
+-- all that pass after passed before: the same pass, or fewer
+pub count-fewer : (n : ℕ) (p q : ℕ → Bool) → ((k : ℕ) → k < n → q k ≡ true → p k ≡ true) →
+    (countBelow n q ≤ countBelow n p) × (((k : ℕ) → k < n → q k ≡ p k) ⊎ (countBelow n q < countBelow n p))
+unfolding countBelow
+count-fewer zero p q h = (omega arith, inl (λ k l. absurd (omega arith)))
+count-fewer (suc n) p q h = go (count-fewer n p q (λ k l. h k (omega arith))) (split (p n)) (split (q n))
+  where
+    Same : ℕ → Type 0
+    Same m = (k : ℕ) → k < m → q k ≡ p k
+
+    more : Same n → q n ≡ p n → Same (suc n)
+    more same e k l = at (ℕ-discrete k n)
+      where
+        at : Dec (k ≡ n) → q k ≡ p k
+        at (yes r) = ap q r ∙ (e ∙ sym (ap p r))
+        at (no d) = same k (omega arith)
+
+    go : (countBelow n q ≤ countBelow n p) × (Same n ⊎ (countBelow n q < countBelow n p)) → (p n ≡ true) ⊎ (p n ≡ false) → (q n ≡ true) ⊎ (q n ≡ false) →
+        (countBelow (suc n) q ≤ countBelow (suc n) p) × (Same (suc n) ⊎ (countBelow (suc n) q < countBelow (suc n) p))
+    go (le, r) (inl a) (inr b) = let d = count-yes n p a in let e = count-no n q b in (omega arith, inr (omega arith))
+    go (le, r) (inr a) (inl b) = clash (h n (omega arith) b) a
+    go (le, inl e) (inl a) (inl b) = let d = count-yes n p a in let f = count-yes n q b in (omega arith, inl (more e (b ∙ sym a)))
+    go (le, inr l) (inl a) (inl b) = let d = count-yes n p a in let f = count-yes n q b in (omega arith, inr (omega arith))
+    go (le, inl e) (inr a) (inr b) = let d = count-no n p a in let f = count-no n q b in (omega arith, inl (more e (b ∙ sym a)))
+    go (le, inr l) (inr a) (inr b) = let d = count-no n p a in let f = count-no n q b in (omega arith, inr (omega arith))

@@ -10,7 +10,7 @@ use native.Mathlib.Nat.{add-zero, add-suc, suc-add, zero-add}
 use native.Mathlib.Numerals.{add-one}
 use borrow.Author.Tests.{eq-eqb, ne-eqb}
 use lib.Dec.{eqb}
-use lib.ListN.{length, getD, set, length-set, length-append, List·getD-append}
+use lib.ListN.{length, getD, set, length-set, length-append, List·getD-append, replicate}
 use lib.Seq.{getD-at, ext-getD, getD-set-same, getD-set-other}
 use lib.IntN.{ℤ, pos, _+ℤ_, +ℤ-idr}
 use Rattle.arith.specs.Table.{fill, tabulate, anyBelow, allBelow, countBelow, selectBelow, firstFrom, firstBelow, sum}
@@ -53,6 +53,42 @@ module _ {A : Type 0} where
       go k l (no d) =
           getD-set-other (tabulate n f) i k a a d ∙
           (tabulate-at n f k a l ∙ sym (tabulate-at n (λ k. cond (eqb i k) a (f k)) k a l ∙ rw (ne-eqb i k (λ e. d (sym e)))))
+
+  -- an entry within the length, whatever stands beyond
+  pub any-default : (l : List A) (k : ℕ) (d e : A) → k < length l → getD l k d ≡ getD l k e
+  any-default [] k d e h = absurd (omega arith)
+  any-default (a ∷ l) zero d e h = refl
+  any-default (a ∷ l) (suc k) d e h = any-default l k d e (omega arith)
+
+  fill-suc : (n s : ℕ) (f : ℕ → A) → fill (suc n) s f ≡ fill n s f ++ (f (s + n) ∷ [])
+  unfolding fill
+  fill-suc zero s f = rw add-zero
+  fill-suc (suc n) s f = ap (λ l. f s ∷ l) (fill-suc n (suc s) f ∙ rw (add-suc s n, suc-add s n))
+
+  -- one entry more
+  pub tabulate-suc : (n : ℕ) (f : ℕ → A) → tabulate (suc n) f ≡ tabulate n f ++ (f n ∷ [])
+  unfolding tabulate
+  tabulate-suc n f = fill-suc n 0 f ∙ rw zero-add
+
+  fill-cong : (n s : ℕ) (f g : ℕ → A) → ((k : ℕ) → k < n → f (s + k) ≡ g (s + k)) → fill n s f ≡ fill n s g
+  unfolding fill
+  fill-cong zero s f g h = refl
+  fill-cong (suc n) s f g h =
+      ap₂ (λ a l. a ∷ l) (sym (ap f (add-zero s)) ∙ (h 0 (omega arith) ∙ ap g (add-zero s)))
+      (fill-cong n (suc s) f g (λ k l. sym (ap f (shift k)) ∙ (h (suc k) (omega arith) ∙ ap g (shift k))))
+    where
+      shift : (k : ℕ) → s + suc k ≡ suc s + k
+      shift k = omega arith
+
+  pub tabulate-cong : (n : ℕ) (f g : ℕ → A) → ((k : ℕ) → k < n → f k ≡ g k) → tabulate n f ≡ tabulate n g
+  unfolding tabulate
+  tabulate-cong n f g h = fill-cong n 0 f g (λ k l. rw zero-add (h k l))
+
+-- an array as it is made
+pub zeros-at : (n v : ℕ) → _≡_ {A = ℕ} (getD (replicate n 0) v 0) 0
+zeros-at zero v = refl
+zeros-at (suc n) zero = refl
+zeros-at (suc n) (suc v) = zeros-at n v
 
 -- ---- a test over all numbers below n
 
@@ -114,6 +150,10 @@ any-intro (suc n) p k h e = go (ℕ-discrete k n) (λ l. any-intro n p k l e)
     go : Dec (k ≡ n) → (k < n → anyBelow n p ≡ true) → (p n || anyBelow n p) ≡ true
     go (yes q) r = or-left (p n) (anyBelow n p) (ap p (sym q) ∙ e)
     go (no d) r = or-right (p n) (anyBelow n p) (r (omega arith))
+
+pub any-more : (n : ℕ) (p : ℕ → Bool) → anyBelow (n + 1) p ≡ (p n || anyBelow n p)
+unfolding anyBelow
+any-more n p = rw add-one
 
 -- one of the numbers below m has A, or all have B
 pub find : (m : ℕ) (A B : ℕ → Type 0) → ((k : ℕ) → k < m → A k ⊎ B k) → ((k : ℕ) × (k < m) × A k) ⊎ ((k : ℕ) → k < m → B k)

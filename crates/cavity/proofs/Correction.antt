@@ -1,5 +1,5 @@
 -- The corrected cavity: it has the base, its outer faces are visible or coplanar, and it loses no corner (C1, C2, C3).
-use Prim.Native.Nat.{ℕ, _+_, _*_, _≤_, _<_}
+use Prim.Native.Nat.{ℕ, zero, suc, _+_, _*_, _≤_, _<_}
 use mathlib.Core.Bool.{Bool, true, false, not, _&&_, _||_}
 use mathlib.Core.Logic.{_≢_, _⊎_, inl, inr}
 use mathlib.Core.Path.{_≡_, refl, sym, ap, _∙_, subst}
@@ -7,13 +7,15 @@ use mathlib.Core.List.{List}
 use native.Mathlib.Omega.{arith}
 use native.Mathlib.Decide.{ℕ-discrete}
 use lib.ListN.{length}
+use lib.Seq.{ext-getD}
 use lib.IntN.{pos}
 use lib.Signed.{_<ℤ_, _≤ℤ_}
 use borrow.Author.Tests.{not-true, not-false}
-use Rattle.arith.specs.Table.{anyBelow, iterate}
+use Rattle.arith.specs.Table.{anyBelow, countBelow, iterate}
 use Rattle.arith.proofs.Flags.{split, clash, flag-below, and-left, and-right, and-intro, or-left}
 use Rattle.arith.proofs.Tables.{tabulate-length, tabulate-at}
-use Rattle.arith.proofs.Settling.{iterate-keeps, iterate-stops, clearing-settles}
+use Rattle.arith.proofs.Settling.{iterate-keeps, iterate-stops, settles, clearing-settles}
+use Rattle.arith.proofs.Counting.{count-fewer, count-le}
 use Rattle.arith.proofs.Order.{trichotomy, <-irrefl, <-≤-trans, ≤-<-trans, neg-mono-<}
 use Rattle.geometry.specs.declared.Position.{Position}
 use Rattle.geometry.specs.Volume.{volume, replaced}
@@ -100,6 +102,42 @@ module _ (t : Tables) (n : ℕ) (p : Position) where
     pub corrected-stops : (s : List Bool) (k : ℕ) → k ≤ n → pruned t n p b (iterate k (pruned t n p b) s) ≡ iterate k (pruned t n p b) s → corrected t n p b s ≡ iterate k (pruned t n p b) s
     unfolding corrected
     corrected-stops s k h e = iterate-stops (pruned t n p b) k n s h e
+
+    -- a cavity cell outside the base, which alone can be removed
+    abbrev outside : List Bool → ℕ → Bool
+    outside s c = inSet s c && not (inSet b c)
+
+    -- a round that changes the cavity lowers their number
+    pruned-falls : (s : List Bool) → length s ≡ n → (pruned t n p b s ≡ s) ⊎ (countBelow n (outside (pruned t n p b s)) < countBelow n (outside s))
+    pruned-falls s h = go (count-fewer n (outside s) (outside (pruned t n p b s)) down .1)
+      where
+        down : (c : ℕ) → c < n → outside (pruned t n p b s) c ≡ true → outside s c ≡ true
+        down c l e =
+            and-intro
+            (and-left (inSet s c) (not (marked t n p b s c)) (sym (pruned-at s c l) ∙ and-left (inSet (pruned t n p b s) c) (not (inSet b c)) e))
+            (and-right (inSet (pruned t n p b s) c) (not (inSet b c)) e)
+
+        and-true : (x : Bool) → (x && true) ≡ x
+        and-true true = refl
+        and-true false = refl
+
+        same : (c : ℕ) → c < n → outside (pruned t n p b s) c ≡ outside s c → (inSet b c ≡ true) ⊎ (inSet b c ≡ false) → inSet (pruned t n p b s) c ≡ inSet s c
+        same c l e (inl q) = pruned-at s c l ∙ (ap (λ x. inSet s c && not x) (base-unmarked s c q) ∙ and-true (inSet s c))
+        same c l e (inr q) =
+            let f : (x : Bool) → (x && not (inSet b c)) ≡ x = λ x. ap (λ y. x && not y) q ∙ and-true x in
+            sym (f (inSet (pruned t n p b s) c)) ∙ (e ∙ f (inSet s c))
+
+        go : ((c : ℕ) → c < n → outside (pruned t n p b s) c ≡ outside s c) ⊎ (countBelow n (outside (pruned t n p b s)) < countBelow n (outside s)) →
+            (pruned t n p b s ≡ s) ⊎ (countBelow n (outside (pruned t n p b s)) < countBelow n (outside s))
+        go (inl e) = inl (ext-getD false (pruned t n p b s) s (pruned-long s ∙ sym h) (λ c l. same c (omega (arith, pruned-long s)) (e c (omega (arith, pruned-long s))) (split (inSet b c))))
+        go (inr d) = inr d
+
+    -- as many rounds as there are cavity cells outside the base are enough
+    pub settles-within : (s : List Bool) → length s ≡ n →
+        corrected t n p b s ≡ iterate (countBelow n (λ c. inSet s c && not (inSet b c))) (pruned t n p b) s
+    settles-within s h =
+        corrected-stops s (countBelow n (outside s)) (count-le n (outside s))
+        (settles (pruned t n p b) (λ r. countBelow n (outside r)) (λ r. length r ≡ n) (λ r l. pruned-long r) pruned-falls (countBelow n (outside s)) s h (omega arith))
 
     pub corrected-unmarked : (s : List Bool) → length s ≡ n → (c : ℕ) → inSet (corrected t n p b s) c ≡ true → marked t n p b (corrected t n p b s) c ≡ false
     corrected-unmarked s h c e =

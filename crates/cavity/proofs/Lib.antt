@@ -2,3 +2,9 @@
 pub mod Tests
 pub mod Correction
 pub mod Growth
+pub mod Meshes
+pub mod Gathering
+pub mod Visiting
+pub mod Marking
+pub mod Rounds
+pub mod Removal

@@ -276,17 +276,20 @@ coded ps cs np n q S hq {codes} ec c hc {k} ek =
     corner< : (i : ℕ) → i < 4 → getD (fourAt cs c) i 0 < np
     corner< i h = subst (λ m. m < np) (sym (four-entry cs c i h)) (S .below (4 * c + i) (omega arith))
 
-pub holds-is : (ps cs ns : List ℕ) (c : ℕ) (q : Position) → holdsFour ps (fourAt cs c) q ≡ holds (tables ps cs ns) q c
-unfolding holdsFour holds side cornerAt
-holds-is ps cs ns c q =
-    all-cong 4 (λ i. leZ (pos 0) (volume (replaced (λ j. pointIn ps (getD (fourAt cs c) j 0)) i q))) (λ i. leZ (pos 0) (side t q (4 * c + i)))
-    (λ i h. ap (leZ (pos 0)) (face i h))
+-- the volumes that a cell's four corners give are its sides
+pub side-of-four : (ps cs ns : List ℕ) (c i : ℕ) (q : Position) → i < 4 →
+    volume (replaced (λ j. pointIn ps (getD (fourAt cs c) j 0)) i q) ≡ side (tables ps cs ns) q (4 * c + i)
+unfolding side cornerAt
+side-of-four ps cs ns c i q h =
+    volume-cong (replaced (λ j. pointIn ps (getD (fourAt cs c) j 0)) i q) (replaced (cornerAt t c) i q)
+    (λ j l. ap (λ v. cond (eqb j i) q (pointIn ps v)) (four-corner t c j l)) ∙
+    sym (ap₂ (λ d j. volume (replaced (cornerAt t d) j q)) (face-cell c i h) (face-opposite c i h))
   where
     t : Tables
     t = tables ps cs ns
 
-    face : (i : ℕ) → i < 4 → volume (replaced (λ j. pointIn ps (getD (fourAt cs c) j 0)) i q) ≡ side t q (4 * c + i)
-    face i h =
-        volume-cong (replaced (λ j. pointIn ps (getD (fourAt cs c) j 0)) i q) (replaced (cornerAt t c) i q)
-        (λ j l. ap (λ v. cond (eqb j i) q (pointIn ps v)) (four-corner t c j l)) ∙
-        sym (ap₂ (λ d j. volume (replaced (cornerAt t d) j q)) (face-cell c i h) (face-opposite c i h))
+pub holds-is : (ps cs ns : List ℕ) (c : ℕ) (q : Position) → holdsFour ps (fourAt cs c) q ≡ holds (tables ps cs ns) q c
+unfolding holdsFour holds
+holds-is ps cs ns c q =
+    all-cong 4 (λ i. leZ (pos 0) (volume (replaced (λ j. pointIn ps (getD (fourAt cs c) j 0)) i q))) (λ i. leZ (pos 0) (side (tables ps cs ns) q (4 * c + i)))
+    (λ i h. ap (leZ (pos 0)) (side-of-four ps cs ns c i q h))

@@ -15,7 +15,7 @@ use lib.Signed.{_<ℤ_, ltZ}
 use mir.Val.{boolByte}
 use Rattle.arith.specs.Table.{allBelow, anyBelow}
 use Rattle.arith.proofs.Flags.{split, clash, and-left, and-right, and-intro, or-other, bool-ext, below-four}
-use Rattle.arith.proofs.Tables.{all-at, any-found, any-intro}
+use Rattle.arith.proofs.Tables.{any-default, all-at, any-found, any-intro}
 use Rattle.arith.proofs.Determinant.{odd}
 use Rattle.geometry.proofs.Algebra.{volume-cong}
 use Rattle.mesh.specs.declared.Cell.{Cell}
@@ -150,12 +150,6 @@ four-corner t u = four-entry (t .corners) u
 pub four-volume : (ps cs : List ℕ) (c : ℕ) → volumeOfFour ps (fourAt cs c) ≡ cellVolume (tables ps cs []) c
 unfolding cellVolume cornerAt corner
 four-volume ps cs c = volume-cong (λ i. pointIn ps (getD (fourAt cs c) i 0)) (cornerAt (tables ps cs []) c) (λ i h. ap (pointIn ps) (four-entry cs c i h))
-
--- an entry within the length, whatever stands beyond
-any-default : (xs : List ℕ) (k d e : ℕ) → k < length xs → getD xs k d ≡ getD xs k e
-any-default [] k d e h = absurd (omega arith)
-any-default (x ∷ xs) zero d e h = refl
-any-default (x ∷ xs) (suc k) d e h = any-default xs k d e (omega arith)
 
 -- what is not 8 is a place with that number
 place-found : (t : Tables) (u v : ℕ) → placeIn (fourAt (t .corners) u) v < 8 →

@@ -5,3 +5,12 @@ pub mod FaceSums
 pub mod Star
 pub mod NewFaces
 pub mod NewMesh
+pub mod Codes
+pub mod Around
+pub mod Slots
+pub mod Fours
+pub mod Done
+pub mod InTurn
+pub mod Moves
+pub mod NewTables
+pub mod NewPoint

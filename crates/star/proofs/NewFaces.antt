@@ -52,6 +52,23 @@ wall-by {X} {Y} {Z} t f c i hi o t′ h = record {
   on = λ k l ne. ap (λ x. along (o .wall) (cornerAt t′ x k)) (face-cell c i hi) ∙ h k l (λ e. ne (e ∙ sym (face-opposite c i hi)));
 }
 
+pub visible-not-coplanar : (t : Tables) (p : Position) (s : List Bool) (f : ℕ) → visible t p s f ≡ true → coplanar t p f ≡ false
+visible-not-coplanar t p s f v = go (split (coplanar t p f))
+  where
+    go : (coplanar t p f ≡ true) ⊎ (coplanar t p f ≡ false) → coplanar t p f ≡ false
+    go (inl c) = absurd (<-irrefl (subst (λ z. pos 0 <ℤ z) (coplanar-of t p f c .level) (visible-of t p s f v .above)))
+    go (inr c) = c
+
+-- seen from outside, a face of the cavity with a neighbour is visible
+pub mate-visible : {X Y Z pc cc np n : ℕ} {t : Tables} → IsMesh X Y Z pc cc np n t → Room pc cc t → {p : Position} {s : List Bool} → Starlike t n p s →
+    (f : ℕ) → f < 4 * n → across t f ≢ none → inSet s (cellOf f) ≡ false → inSet s (across t f) ≡ true → visible t p s (mate t f) ≡ true
+mate-visible {t = t} M R {p} {s} C f f< real out inn = go (C .faces (mate t f) (mate< M R f f< real)
+    (outer-yes t s (mate t f) (ap (inSet s) (mated M R f f< real .far-cell) ∙ inn) (ap (inSet s) (mated M R f f< real .back) ∙ out)))
+  where
+    go : (visible t p s (mate t f) ≡ true) ⊎ (coplanar t p (mate t f) ≡ true) → visible t p s (mate t f) ≡ true
+    go (inl v) = v
+    go (inr c) = absurd (mate-real M R f f< real (coplanar-of t p (mate t f) c .bare))
+
 -- a face of the new mesh is as the mesh asks
 unfoldable pub Good : ℕ → ℕ → ℕ → Tables → ℕ → ℕ → Type 0
 Good X Y Z t n f = ((across t f ≡ none) × OnWall X Y Z t f) ⊎ ((across t f < n) × ((g : ℕ) × Mated t f g))
@@ -87,15 +104,6 @@ module _ {X Y Z pc cc np n : ℕ} {t : Tables} (M : IsMesh X Y Z pc cc np n t) {
   unfolding oldAcross
   old-kept f d e = rw (ne-eqb (across t f) none d, e)
 
-  -- seen from outside, a face of the cavity with a neighbour is visible
-  mate-visible : (f : ℕ) → f < 4 * n → across t f ≢ none → inSet s (cellOf f) ≡ false → inSet s (across t f) ≡ true → visible t p s (mate t f) ≡ true
-  mate-visible f f< real out inn = go (C .faces (mate t f) (mate< M R f f< real)
-      (outer-yes t s (mate t f) (ap (inSet s) (mated M R f f< real .far-cell) ∙ inn) (ap (inSet s) (mated M R f f< real .back) ∙ out)))
-    where
-      go : (visible t p s (mate t f) ≡ true) ⊎ (coplanar t p (mate t f) ≡ true) → visible t p s (mate t f) ≡ true
-      go (inl v) = v
-      go (inr c) = absurd (mate-real M R f f< real (coplanar-of t p (mate t f) c .bare))
-
   -- ---- positions in the new cells
 
   kept-pos : (c : ℕ) → c < n → kept? s c ≡ true → (i : ℕ) → i < 4 → cornerAt t′ (kn c) i ≡ cornerAt t c i
@@ -130,16 +138,9 @@ module _ {X Y Z pc cc np n : ℕ} {t : Tables} (M : IsMesh X Y Z pc cc np n t) {
       turned-to : madeAcross t n p s f j ≡ starAcross t n p s (turnFace t n s f j)
       turned-to = rw (ne-eqb j (opposite f) d)
 
-  visible-not-coplanar : (f : ℕ) → visible t p s f ≡ true → coplanar t p f ≡ false
-  visible-not-coplanar f v = go (split (coplanar t p f))
-    where
-      go : (coplanar t p f ≡ true) ⊎ (coplanar t p f ≡ false) → coplanar t p f ≡ false
-      go (inl c) = absurd (<-irrefl (subst (λ z. pos 0 <ℤ z) (coplanar-of t p f c .level) (visible-of t p s f v .above)))
-      go (inr c) = c
-
   star-visible : (g : ℕ) → visible t p s g ≡ true → starAcross t n p s g ≡ mn g
   unfolding starAcross
-  star-visible g v = rw (visible-not-coplanar g v)
+  star-visible g v = rw (visible-not-coplanar t p s g v)
 
   star-coplanar : (g : ℕ) → coplanar t p g ≡ true → starAcross t n p s g ≡ none
   unfolding starAcross
@@ -181,7 +182,7 @@ module _ {X Y Z pc cc np n : ℕ} {t : Tables} (M : IsMesh X Y Z pc cc np n t) {
         g< = mate< M R f f<₁ real
 
         v : visible t p s g ≡ true
-        v = mate-visible f f<₁ real out inn
+        v = mate-visible M R C f f<₁ real out inn
 
         here : across t′ (4 * kn c + i) ≡ mn g
         here = kept-across F c c< e i i< ∙ (old-made f real inn)

@@ -191,12 +191,12 @@ module _ {n : ℕ} {corner : ℕ → ℕ → ℕ} {across mate : ℕ → ℕ} (G
 
   -- ---- the turn is a walk
 
-  turn-stop : (k : ℕ) (s : State) → Valid S s → Stop s → turn corner across mate S k s ≡ s
+  pub turn-stop : (k : ℕ) (s : State) → Valid S s → Stop s → turn corner across mate S k s ≡ s
   unfolding turn
   turn-stop zero s v e = refl
   turn-stop (suc k) s v e = rw (outer-is across S (s .cell) (s .exit) (v .exit<) (v .held) ∙ ap not e, turn)
 
-  turn-step : (k : ℕ) (s : State) → Valid S s → Inner s → turn corner across mate S (suc k) s ≡ turn corner across mate S k (next s)
+  pub turn-step : (k : ℕ) (s : State) → Valid S s → Inner s → turn corner across mate S (suc k) s ≡ turn corner across mate S k (next s)
   unfolding turn
   turn-step k s v e = rw (outer-is across S (s .cell) (s .exit) (v .exit<) (v .held) ∙ ap not e, turn)
 

@@ -1,0 +1,5 @@
+-- From tests to refusals and answers; what an accepted node keeps; the list, node by node; and condition 3.
+pub mod Refusals
+pub mod Growing
+pub mod Steps
+pub mod Calls

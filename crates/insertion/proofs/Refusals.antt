@@ -1,0 +1,199 @@
+-- Refusals from the tests that give them, and back; answers from refusals.
+use Prim.Native.Nat.{ℕ, _+_, _≤_, _<_}
+use mathlib.Core.Bool.{Bool, true, false, not, cond}
+use mathlib.Core.List.{List}
+use mathlib.Core.Logic.{_≢_, _⊎_, inl, inr}
+use mathlib.Core.Path.{_≡_, refl, sym, ap, _∙_, subst}
+use native.Mathlib.Decide.{ℕ-discrete}
+use native.Mathlib.Omega.{arith}
+use borrow.Author.Tests.{eqb-true, eqb-false, ne-eqb, ltb-true, ltb-false, not-false}
+use lib.Dec.{ltb, eqb}
+use lib.ListN.{length}
+use Rattle.arith.specs.Table.{anyBelow}
+use Rattle.arith.proofs.Flags.{split, clash}
+use Rattle.arith.proofs.Tables.{Found, any-found, any-intro}
+use Rattle.geometry.specs.declared.Position.{Position}
+use Rattle.geometry.specs.Volume.{InBox, inBox, samePosition}
+use Rattle.geometry.proofs.Ranges.{box-in}
+use Rattle.mesh.specs.declared.Mesh.{Mesh}
+use Rattle.mesh.specs.Tables.{Tables, pointCapacity, cellCapacity, cleared, point}
+use Rattle.mesh.specs.Mesh.{IsMesh}
+use Rattle.mesh.proofs.Checked.{same-position-yes, check-mesh}
+use Rattle.meshcheck.specs.Refusal.{meshRefusal}
+use Rattle.meshcheck.proofs.Verdict.{passed}
+use Rattle.locate.specs.Locate.{holds}
+use Rattle.cavity.specs.Answers.{Answers}
+use Rattle.insertion.specs.declared.Report.{Report}
+use Rattle.insertion.specs.declared.Inserted.{Inserted}
+use Rattle.insertion.specs.declared.Inserted.the-variants.{Accepted, Refused}
+use Rattle.insertion.specs.Insertion.{cellsMade, nodeRefusal, fewerBytes, insertRefusal, reportOf, insertedMesh, insertedTables, insertUnless, insertNode, insertCall, InsertLeaves}
+
+-- a record and tables are a mesh for a work area of w entries
+abbrev pub MeshFor : Mesh → Tables → ℕ → Type 0
+MeshFor m t w = IsMesh (m .x) (m .y) (m .z) (pointCapacity t) (cellCapacity t w) (m .points) (m .cells) t
+
+-- no refusal up to 3: a mesh
+pub passed-mesh : (m : Mesh) (t : Tables) (w : ℕ) (fewer : Bool) → meshRefusal m t w fewer ≡ 0 → MeshFor m t w
+passed-mesh m t w fewer e =
+    check-mesh (m .x) (m .y) (m .z) (pointCapacity t) (cellCapacity t w) (m .points) (m .cells) t (passed m t w fewer e)
+
+-- a test of a chain of refusals that comes to 0
+pub test-to-zero : {b : Bool} {k r : ℕ} → 1 ≤ k → cond b k r ≡ 0 → (b ≡ false) × (r ≡ 0)
+test-to-zero {b} {k} {r} h e = go b e
+  where
+    go : (b : Bool) → cond b k r ≡ 0 → (b ≡ false) × (r ≡ 0)
+    go true q = absurd (omega arith)
+    go false q = (refl, q)
+
+module _ (m : Mesh) (t : Tables) (w : ℕ) (p : Position) (a : Answers) where
+  abbrev inside : Bool
+  inside = inBox (m .x) (m .y) (m .z) p
+
+  abbrev there : ℕ → Bool
+  there k = samePosition (point t k) p
+
+  abbrev someThere : Bool
+  someThere = anyBelow (m .points) there
+
+  abbrev pointsFull : Bool
+  pointsFull = eqb (m .points) (pointCapacity t)
+
+  abbrev held : Bool
+  held = anyBelow (m .cells) (holds t p)
+
+  abbrev cellsFull : Bool
+  cellsFull = ltb (cellCapacity t w) (m .cells + cellsMade m t p a)
+
+  -- ---- from the tests to the number
+
+  pub is-outside : inside ≡ false → nodeRefusal m t w p a ≡ 4
+  unfolding nodeRefusal
+  is-outside b = rw b
+
+  pub is-taken : inside ≡ true → someThere ≡ true → nodeRefusal m t w p a ≡ 5
+  unfolding nodeRefusal
+  is-taken b s = rw (b, s)
+
+  pub is-points-full : inside ≡ true → someThere ≡ false → pointsFull ≡ true → nodeRefusal m t w p a ≡ 6
+  unfolding nodeRefusal
+  is-points-full b s f = rw (b, s, f)
+
+  pub is-unheld : inside ≡ true → someThere ≡ false → pointsFull ≡ false → held ≡ false → nodeRefusal m t w p a ≡ 7
+  unfolding nodeRefusal
+  is-unheld b s f h = rw (b, s, f, h)
+
+  pub is-cells-full : inside ≡ true → someThere ≡ false → pointsFull ≡ false → held ≡ true → cellsFull ≡ true → nodeRefusal m t w p a ≡ 8
+  unfolding nodeRefusal
+  is-cells-full b s f h c = rw (b, s, f, h, c)
+
+  pub is-accepted : inside ≡ true → someThere ≡ false → pointsFull ≡ false → held ≡ true → cellsFull ≡ false → nodeRefusal m t w p a ≡ 0
+  unfolding nodeRefusal
+  is-accepted b s f h c = rw (b, s, f, h, c)
+
+  -- ---- and back
+
+  pub record NodeFits : Type 0 where
+    pub box : InBox (m .x) (m .y) (m .z) p
+    pub free : (k : ℕ) → k < m .points → p ≢ point t k
+    pub next : m .points ≢ pointCapacity t
+    pub holder : Found (m .cells) (holds t p)
+    pub cells : m .cells + cellsMade m t p a ≤ cellCapacity t w
+
+  pub node-fits : nodeRefusal m t w p a ≡ 0 → NodeFits
+  unfolding nodeRefusal
+  node-fits e =
+      let t₁ = test-to-zero {b = not inside} {k = 4} (omega arith) e in
+      let t₂ = test-to-zero {b = someThere} {k = 5} (omega arith) (t₁ .1) in
+      let t₃ = test-to-zero {b = pointsFull} {k = 6} (omega arith) (t₂ .1) in
+      let t₄ = test-to-zero {b = not held} {k = 7} (omega arith) (t₃ .1) in
+      let t₅ = test-to-zero {b = cellsFull} {k = 8} {r = 0} (omega arith) (t₄ .1) in
+      record {
+        box = box-in (not-false inside (t₁ .0));
+        free = λ k l q. clash (any-intro (m .points) there k l (same-position-yes (point t k) p (sym q))) (t₂ .0);
+        next = eqb-false (m .points) (pointCapacity t) (t₃ .0);
+        holder = any-found (m .cells) (holds t p) (not-false held (t₄ .0));
+        cells = ltb-false (cellCapacity t w) (m .cells + cellsMade m t p a) (t₅ .0);
+      }
+
+  -- what each number says of the node
+  pub data Reason : ℕ → Type 0 where
+    outside : inside ≡ false → Reason 4
+    taken : Found (m .points) there → Reason 5
+    points-full : m .points ≡ pointCapacity t → Reason 6
+    unheld : held ≡ false → Reason 7
+    cells-full : cellCapacity t w < m .cells + cellsMade m t p a → Reason 8
+    accepted : NodeFits → Reason 0
+
+  pub node-reason : Reason (nodeRefusal m t w p a)
+  node-reason = go (split inside) (split someThere) (split pointsFull) (split held) (split cellsFull)
+    where
+      go : (inside ≡ true) ⊎ (inside ≡ false) → (someThere ≡ true) ⊎ (someThere ≡ false) → (pointsFull ≡ true) ⊎ (pointsFull ≡ false) →
+          (held ≡ true) ⊎ (held ≡ false) → (cellsFull ≡ true) ⊎ (cellsFull ≡ false) → Reason (nodeRefusal m t w p a)
+      go (inr b) s f h c = subst Reason (sym (is-outside b)) (outside b)
+      go (inl b) (inl s) f h c = subst Reason (sym (is-taken b s)) (taken (any-found (m .points) there s))
+      go (inl b) (inr s) (inl f) h c = subst Reason (sym (is-points-full b s f)) (points-full (eqb-true (m .points) (pointCapacity t) f))
+      go (inl b) (inr s) (inr f) (inr h) c = subst Reason (sym (is-unheld b s f h)) (unheld h)
+      go (inl b) (inr s) (inr f) (inl h) (inl c) = subst Reason (sym (is-cells-full b s f h c)) (cells-full (ltb-true (cellCapacity t w) (m .cells + cellsMade m t p a) c))
+      go (inl b) (inr s) (inr f) (inl h) (inr c) =
+          let e = is-accepted b s f h c in subst Reason (sym e) (accepted (node-fits e))
+
+  -- ---- answers from refusals
+
+  abbrev firstThree : ℕ
+  firstThree = meshRefusal m t w (fewerBytes a (m .cells))
+
+  pub node-accepted : nodeRefusal m t w p a ≡ 0 →
+      insertNode m t w p a ≡ record { answer = Accepted (insertedMesh m t p a) (reportOf m t p a); tables = insertedTables m t p a }
+  unfolding insertNode insertUnless
+  node-accepted e = rw e
+
+  pub node-refused : {k : ℕ} → nodeRefusal m t w p a ≡ k → k ≢ 0 → insertNode m t w p a ≡ record { answer = Refused k; tables = t }
+  unfolding insertNode insertUnless
+  node-refused {k} e d = rw (e, ne-eqb k 0 d)
+
+  -- a call that tests 1 to 3 refuse
+  pub call-refused : {k : ℕ} → firstThree ≡ k → k ≢ 0 → insertCall m t w p a ≡ record { answer = Refused k; tables = t }
+  unfolding insertCall insertUnless insertRefusal
+  call-refused {k} e d = rw (e, ne-eqb k 0 d, ne-eqb k 0 d)
+
+  -- and one that they let pass
+  pub call-is-node : firstThree ≡ 0 → insertCall m t w p a ≡ insertNode m t w p a
+  unfolding insertCall insertNode insertRefusal
+  call-is-node e = rw e
+
+  pub call-passed : insertRefusal m t w p a ≡ 0 → (firstThree ≡ 0) × (nodeRefusal m t w p a ≡ 0)
+  unfolding insertRefusal
+  call-passed e = go (split (eqb firstThree 0))
+    where
+      go : (eqb firstThree 0 ≡ true) ⊎ (eqb firstThree 0 ≡ false) →
+          (firstThree ≡ 0) × (nodeRefusal m t w p a ≡ 0)
+      go (inl q) = (eqb-true firstThree 0 q, rw q at e)
+      go (inr q) = absurd (eqb-false firstThree 0 q (rw q at e))
+
+  -- an answer with a report: no test failed, and the record is the definition's
+  pub accepted-node : {m′ : Mesh} {r : Report} → Accepted m′ r ≡ insertNode m t w p a .answer →
+      (nodeRefusal m t w p a ≡ 0) × ((m′ ≡ insertedMesh m t p a) × (insertNode m t w p a .tables ≡ insertedTables m t p a))
+  accepted-node {m′} {r} e = go (ℕ-discrete (nodeRefusal m t w p a) 0)
+    where
+      go : Dec (nodeRefusal m t w p a ≡ 0) → (nodeRefusal m t w p a ≡ 0) × ((m′ ≡ insertedMesh m t p a) × (insertNode m t w p a .tables ≡ insertedTables m t p a))
+      go (yes h) =
+          let q = node-accepted h in
+          let f : Accepted m′ r ≡ Accepted (insertedMesh m t p a) (reportOf m t p a) = e ∙ ap (λ l. l .answer) q in
+          (h, (cc, ap (λ l. l .tables) q))
+      go (no h) =
+          let f : Accepted m′ r ≡ Refused (nodeRefusal m t w p a) = e ∙ ap (λ l. l .answer) (node-refused refl h) in
+          let z : _≡_ {A = ℕ} 0 1 = cc in absurd (omega arith)
+
+-- ---- the contract of a call
+
+module _ (m : Mesh) (t : Tables) (ws ws′ : List ℕ) (p : Position) (a : Answers) (c : ws′ ≡ cleared ws) where
+  pub refused-leaves : {k : ℕ} → k ≡ meshRefusal m t (length ws) (fewerBytes a (m .cells)) → k ≢ 0 → InsertLeaves m t ws p a (Refused k) t ws′
+  refused-leaves e d =
+      let q = call-refused m t (length ws) p a (sym e) d in
+      record { answer = sym (ap (λ l. l .answer) q); tables = sym (ap (λ l. l .tables) q); work = c }
+
+  pub node-leaves : {r : Inserted} {t′ : Tables} → meshRefusal m t (length ws) (fewerBytes a (m .cells)) ≡ 0 →
+      r ≡ insertNode m t (length ws) p a .answer → t′ ≡ insertNode m t (length ws) p a .tables → InsertLeaves m t ws p a r t′ ws′
+  node-leaves e f g =
+      let q = call-is-node m t (length ws) p a e in
+      record { answer = f ∙ sym (ap (λ l. l .answer) q); tables = g ∙ sym (ap (λ l. l .tables) q); work = c }

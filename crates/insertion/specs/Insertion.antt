@@ -1,0 +1,104 @@
+-- Inserting one node, by the float sphere test or by answers handed in: refusals, report, record and tables.
+use Prim.Native.Nat.{ℕ, _+_}
+use mathlib.Core.Bool.{Bool, false, not, cond}
+use mathlib.Core.List.{List}
+use mathlib.Core.Path.{_≡_}
+use lib.Dec.{ltb, eqb}
+use lib.ListN.{length}
+use Rattle.arith.specs.Table.{anyBelow}
+use Rattle.geometry.specs.declared.Position.{Position}
+use Rattle.geometry.specs.Volume.{inBox, samePosition}
+use Rattle.mesh.specs.declared.Mesh.{Mesh}
+use Rattle.mesh.specs.Tables.{Tables, pointCapacity, cellCapacity, cleared, point}
+use Rattle.meshcheck.specs.Refusal.{meshRefusal}
+use Rattle.locate.specs.Locate.{holds}
+use Rattle.cavity.specs.Answers.{Answers, sphere, handed, isYes, reportT, leastT}
+use Rattle.cavity.specs.Cavity.{cavityOf, correctedCavity, cavitySize}
+use Rattle.star.specs.Star.{madeCount, newCount, star}
+use Rattle.insertion.specs.declared.Report.{Report}
+use Rattle.insertion.specs.declared.Inserted.{Inserted}
+use Rattle.insertion.specs.declared.Inserted.the-variants.{Accepted, Refused}
+
+-- the cavity of p before correction
+unfoldable pub firstCavity : Mesh → Tables → Position → Answers → List Bool
+firstCavity m t p a = cavityOf t (m .cells) p (isYes a t p)
+
+-- and after it
+unfoldable pub lastCavity : Mesh → Tables → Position → Answers → List Bool
+lastCavity m t p a = correctedCavity t (m .cells) p (isYes a t p)
+
+-- 'cells made'
+unfoldable pub cellsMade : Mesh → Tables → Position → Answers → ℕ
+cellsMade m t p a = madeCount t (m .cells) p (lastCavity m t p a)
+
+-- refusals 4 to 8 of a node, checked in number order; 0 where there is none
+unfoldable pub nodeRefusal : Mesh → Tables → ℕ → Position → Answers → ℕ
+nodeRefusal m t w p a =
+    cond (not (inBox (m .x) (m .y) (m .z) p)) 4
+    (cond (anyBelow (m .points) (λ k. samePosition (point t k) p)) 5
+    (cond (eqb (m .points) (pointCapacity t)) 6
+    (cond (not (anyBelow (m .cells) (holds t p))) 7
+    (cond (ltb (cellCapacity t w) (m .cells + cellsMade m t p a)) 8 0))))
+
+-- 'fewer answer bytes than cells'
+unfoldable pub fewerBytes : Answers → ℕ → Bool
+fewerBytes sphere n = false
+fewerBytes (handed bytes) n = ltb (length bytes) n
+
+-- refusals 1 to 8
+unfoldable pub insertRefusal : Mesh → Tables → ℕ → Position → Answers → ℕ
+insertRefusal m t w p a =
+    let r = meshRefusal m t w (fewerBytes a (m .cells)) in cond (eqb r 0) (nodeRefusal m t w p a) r
+
+-- 'point number, spot size before and after correction, cells made, and the least T over the spot before correction'
+unfoldable pub reportOf : Mesh → Tables → Position → Answers → Report
+reportOf m t p a =
+    record {
+      point = m .points;
+      before = cavitySize (m .cells) (firstCavity m t p a);
+      after = cavitySize (m .cells) (lastCavity m t p a);
+      made = cellsMade m t p a;
+      least = leastT (reportT a t p) (m .cells) (firstCavity m t p a);
+    }
+
+-- the record with p inserted
+unfoldable pub insertedMesh : Mesh → Tables → Position → Answers → Mesh
+insertedMesh m t p a =
+    record {
+      x = m .x;
+      y = m .y;
+      z = m .z;
+      points = m .points + 1;
+      cells = newCount t (m .cells) p (lastCavity m t p a);
+    }
+
+-- and the tables: 'P gets the next point number.'
+unfoldable pub insertedTables : Mesh → Tables → Position → Answers → Tables
+insertedTables m t p a = star t (m .cells) p (m .points) (lastCavity m t p a)
+
+-- what a call answers, and the tables that it leaves
+pub record Result (Answer : Type 0) : Type 0 where
+  pub answer : Answer
+  pub tables : Tables
+
+-- with the refusal r: 'A refusal answers its number alone and leaves record, mesh tables and output unchanged'
+unfoldable pub insertUnless : ℕ → Mesh → Tables → Position → Answers → Result Inserted
+insertUnless r m t p a =
+    cond (eqb r 0)
+    record { answer = Accepted (insertedMesh m t p a) (reportOf m t p a); tables = insertedTables m t p a }
+    record { answer = Refused r; tables = t }
+
+-- a node after tests 1 to 3
+unfoldable pub insertNode : Mesh → Tables → ℕ → Position → Answers → Result Inserted
+insertNode m t w p a = insertUnless (nodeRefusal m t w p a) m t p a
+
+-- the call
+unfoldable pub insertCall : Mesh → Tables → ℕ → Position → Answers → Result Inserted
+insertCall m t w p a = insertUnless (insertRefusal m t w p a) m t p a
+
+-- what inserting p answers and leaves in the tables t and the work area ws
+pub record InsertLeaves (m : Mesh) (t : Tables) (ws : List ℕ) (p : Position) (a : Answers)
+    (r : Inserted) (t′ : Tables) (ws′ : List ℕ) : Type 0 where
+  pub answer : r ≡ insertCall m t (length ws) p a .answer
+  pub tables : t′ ≡ insertCall m t (length ws) p a .tables
+  pub work : ws′ ≡ cleared ws

@@ -1,0 +1,211 @@
+-- The slots of new cells, and what the new cells hold, as the code finds them.
+use Prim.Native.Nat.{ℕ, _+_, _*_, _≤_, _<_}
+use mathlib.Core.Bool.{Bool, true, false, cond}
+use mathlib.Core.List.{List}
+use mathlib.Core.Logic.{_≢_, _⊎_, inl, inr}
+use mathlib.Core.Path.{_≡_, refl, sym, ap, ap₂, _∙_, subst}
+use native.Mathlib.Omega.{arith}
+use native.Mathlib.Decide.{ℕ-discrete}
+use borrow.Author.Tests.{eq-eqb, ne-eqb}
+use lib.Dec.{eqb}
+use lib.ListN.{length, getD, set}
+use lib.Seq.{getD-set-same, getD-set-other}
+use Rattle.arith.specs.Table.{countBelow}
+use Rattle.arith.proofs.Counting.{count-le, count-mono, count-lt}
+use Rattle.arith.proofs.Flags.{split, clash}
+use Rattle.geometry.specs.declared.Position.{Position}
+use Rattle.mesh.specs.Tables.{Tables, none, cellOf, opposite, corner, across, mate}
+use Rattle.mesh.specs.declared.Cell.{Cell}
+use Rattle.mesh.specs.Inner.{fourAt, withFour, HasCell}
+use Rattle.mesh.proofs.FaceNumbers.{face-cell, face-opposite}
+use Rattle.mesh.proofs.Glued.{Glued}
+use Rattle.mesh.proofs.Numbers.{four-entry}
+use Rattle.cavity.specs.Cavity.{inSet, outer, coplanar, visible}
+use Rattle.cavity.specs.Inner.{setOf, facesCode}
+use Rattle.cavity.proofs.Tests.{visible-of}
+use Rattle.star.specs.Turn.{State, inFace, outFace, turn}
+use Rattle.star.specs.Star.{madeCount, madeCorner, turnFace}
+use Rattle.star.specs.Inner.{marked, slotOf, numberOf, entryAt, numberAt, starSlot, slotAcross, nameBack, Building, Facing, NewCell, FaceDone, starred}
+use Rattle.star.proofs.Cross.{Valid}
+use Rattle.star.proofs.Turn.{turn-valid, turn-ends}
+use Rattle.star.proofs.NewFaces.{visible-not-coplanar}
+use Rattle.star.proofs.Codes.{set-at, code-bit, count-cell}
+use Rattle.star.proofs.Around.{set-below, standing-few, standing-room, standing-glued, has-neighbours, turn-face}
+
+pub visible< : (t : Tables) (n : ℕ) (p : Position) (st : List ℕ) (f : ℕ) → visible t p (setOf n st) f ≡ true → f < 4 * n
+visible< t n p st f v = omega (arith, set-below n st (cellOf f) (visible-of t p (setOf n st) f v .held))
+
+pub slot< : (t : Tables) (n : ℕ) (p : Position) (st : List ℕ) (f : ℕ) → visible t p (setOf n st) f ≡ true → slotOf t n p (setOf n st) f < n + madeCount t n p (setOf n st)
+unfolding slotOf madeCount
+slot< t n p st f v = omega (arith, count-lt f (4 * n) (visible t p (setOf n st)) (visible< t n p st f v) v)
+
+module _ {n : ℕ} {st fa nu cs ns : List ℕ} (b : Building n st fa nu cs ns) where
+  abbrev t : Tables
+  t = b .standing .was
+
+  abbrev p : Position
+  p = b .p
+
+  abbrev s : List Bool
+  s = setOf n st
+
+  module _ (c k : ℕ) (held : inSet (setOf n st) c ≡ true) (k< : k < 4) where
+    c< : c < n
+    c< = set-below n st c held
+
+    code-is : getD fa c 0 ≡ facesCode t p s c
+    code-is = b .inspected c c< (sym (set-at n st c c<) ∙ held)
+
+    pub bit-visible : marked (getD fa c 0) k ≡ visible (b .standing .was) (b .p) (setOf n st) (4 * c + k)
+    bit-visible = ap (λ x. marked x k) code-is ∙ code-bit t p s c k k<
+
+    first-is : getD nu c 0 ≡ slotOf t n p s (4 * c)
+    unfolding numberOf
+    first-is = b .numbered c c< ∙ rw held
+
+    pub number≤ : getD nu c 0 ≤ 4096
+    unfolding slotOf madeCount
+    number≤ = omega (arith, first-is, count-mono (4 * c) (4 * n) (visible t p s) (omega (arith, c<)), b .room, standing-room (b .standing) .cells≤)
+
+    pub number-slot : getD nu c 0 + countBelow k (marked (getD fa c 0)) ≡ slotOf (b .standing .was) n (b .p) (setOf n st) (4 * c + k)
+    unfolding slotOf
+    number-slot = omega (arith, first-is, count-cell t p s c k (omega arith) (getD fa c 0) code-is)
+
+    -- across a face that ends a turn
+    pub number-star : outer (across (b .standing .was)) (inSet (setOf n st)) (4 * c + k) ≡ true →
+        numberAt fa nu c k ≡ starSlot (b .standing .was) n (b .p) (setOf n st) (4 * c + k)
+    unfolding numberAt starSlot
+    number-star o = go (b .like .faces (4 * c + k) (omega (arith, c<)) o)
+      where
+        go : (visible t p s (4 * c + k) ≡ true) ⊎ (coplanar t p (4 * c + k) ≡ true) → numberAt fa nu c k ≡ starSlot t n p s (4 * c + k)
+        go (inl v) = rw (bit-visible ∙ v, visible-not-coplanar t p s (4 * c + k) v) number-slot
+        go (inr d) = rw (bit-visible ∙ unseen d, d)
+          where
+            unseen : coplanar t p (4 * c + k) ≡ true → visible t p s (4 * c + k) ≡ false
+            unseen d = by (split (visible t p s (4 * c + k)))
+              where
+                by : (visible t p s (4 * c + k) ≡ true) ⊎ (visible t p s (4 * c + k) ≡ false) → visible t p s (4 * c + k) ≡ false
+                by (inl v) = clash d (visible-not-coplanar t p s (4 * c + k) v)
+                by (inr v) = v
+
+    -- what the code's answer tells
+    pub number-none : numberAt fa nu c k ≡ none → visible (b .standing .was) (b .p) (setOf n st) (4 * c + k) ≡ false
+    unfolding numberAt
+    number-none e = go (split (marked (getD fa c 0) k))
+      where
+        go : (marked (getD fa c 0) k ≡ true) ⊎ (marked (getD fa c 0) k ≡ false) → visible t p s (4 * c + k) ≡ false
+        go (inl m) = absurd (omega (arith, rw m at e, number≤, count-le k (marked (getD fa c 0))))
+        go (inr m) = sym bit-visible ∙ m
+
+    pub number-some : numberAt fa nu c k ≢ none → Facing n st fa c k
+    unfolding numberAt
+    number-some d = record { held = held; place< = k<; marks = go (split (marked (getD fa c 0) k)) }
+      where
+        go : (marked (getD fa c 0) k ≡ true) ⊎ (marked (getD fa c 0) k ≡ false) → marked (getD fa c 0) k ≡ true
+        go (inl m) = m
+        go (inr m) = absurd (d (rw m))
+
+    pub number-marked : marked (getD fa c 0) k ≡ true → numberAt fa nu c k ≡ slotOf (b .standing .was) n (b .p) (setOf n st) (4 * c + k)
+    unfolding numberAt
+    number-marked m = rw m number-slot
+
+  pub facing : (c k : ℕ) → Facing n st fa c k → visible (b .standing .was) (b .p) (setOf n st) (4 * c + k) ≡ true
+  facing c k F = sym (bit-visible c k (F .held) (F .place<)) ∙ F .marks
+
+  -- where a turn from a visible face ends
+  pub record Reached (c k j : ℕ) (g : State) : Type 0 where
+    pub held : inSet (setOf n st) (g .cell) ≡ true
+    pub exit< : g .exit < 4
+    pub is : numberAt fa nu (g .cell) (g .exit) ≡ slotAcross (b .standing .was) n (b .p) (setOf n st) (4 * c + k) j
+
+  pub reached : (c k j : ℕ) → Facing n st fa c k → j < 4 → j ≢ k → (g : State) →
+      g ≡ turn (corner (b .standing .was)) (across (b .standing .was)) (mate (b .standing .was)) (inSet (setOf n st)) n record { cell = c; entry = k; exit = j } →
+      Reached c k j g
+  unfolding slotAcross
+  reached c k j F j< d g e =
+      record {
+        held = ap (λ (x : State). inSet s (x .cell)) e ∙ v .held;
+        exit< = subst (λ (x : State). x .exit < 4) (sym e) (v .exit<);
+        is =
+            number-star (g .cell) (g .exit) (ap (λ (x : State). inSet s (x .cell)) e ∙ v .held) (subst (λ (x : State). x .exit < 4) (sym e) (v .exit<))
+            (ap (λ (x : State). outer (across t) (inSet s) (outFace x)) e ∙ turn-ends G (set-below n st) x w start n (omega arith)) ∙
+            (ap (λ (x : State). starSlot t n p s (outFace x)) e ∙
+            (ap (starSlot t n p s) (sym (turn-face t n s c k j (F .place<))) ∙ sym other));
+      }
+    where
+      G : Glued n (corner t) (across t) (mate t)
+      G = standing-glued (b .standing)
+
+      x : State
+      x = record { cell = c; entry = k; exit = j }
+
+      w : Valid (inSet s) x
+      w = record { held = F .held; entry< = F .place<; exit< = j<; apart = λ q. d (sym q) }
+
+      start : outer (across t) (inSet s) (inFace x) ≡ true
+      start = visible-of t p s (4 * c + k) (facing c k F) .outer?
+
+      v : Valid (inSet s) (turn (corner t) (across t) (mate t) (inSet s) n x)
+      v = turn-valid G (set-below n st) x w start n (omega arith)
+
+      other : slotAcross t n p s (4 * c + k) j ≡ starSlot t n p s (turnFace t n s (4 * c + k) j)
+      other = rw (face-opposite c k (F .place<), ne-eqb j k d)
+
+  -- across the old face, what lay there
+  pub own-across : (c k j : ℕ) → inSet (setOf n st) c ≡ true → k < 4 → j ≡ k → entryAt ns c j ≡ slotAcross (b .standing .was) n (b .p) (setOf n st) (4 * c + k) j
+  unfolding slotAcross
+  own-across c k j h k< e =
+      ap (entryAt ns c) e ∙ (b .standing .neighbours-same c k h k< ∙ sym own)
+    where
+      own : slotAcross t n p s (4 * c + k) j ≡ across t (4 * c + k)
+      own = rw (face-opposite c k k<, eq-eqb j k e)
+
+  pub new-corner : (v c k j : ℕ) → inSet (setOf n st) c ≡ true → k < 4 → j < 4 → getD (set (fourAt cs c) k v) j 0 ≡ madeCorner (b .standing .was) v (4 * c + k) j
+  unfolding madeCorner fourAt
+  new-corner v c k j h k< j< = go (ℕ-discrete j k)
+    where
+      go : Dec (j ≡ k) → getD (set (fourAt cs c) k v) j 0 ≡ madeCorner t v (4 * c + k) j
+      go (yes e) = rw (face-opposite c k k<, eq-eqb j k e, e) (getD-set-same (fourAt cs c) k v 0 k<)
+      go (no d) =
+          rw (face-opposite c k k<, ne-eqb j k d, face-cell c k k<)
+          (getD-set-other (fourAt cs c) k j v 0 d ∙ (four-entry cs c j j< ∙ b .standing .corners-same c j h j<))
+
+  -- ---- a face is starred
+
+  module _ (c k : ℕ) (F : Facing n st fa c k) where
+    abbrev f : ℕ
+    f = 4 * c + k
+
+    f< : f < 4 * n
+    f< = visible< t n p st f (facing c k F)
+
+    d< : slotOf t n p s f < n + madeCount t n p s
+    d< = slot< t n p st f (facing c k F)
+
+    module _ (d : ℕ) (e : d ≡ slotOf (b .standing .was) n (b .p) (setOf n st) (4 * c + k)) where
+      few : d < 4096
+      few = omega (arith, d<, b .room, standing-room (b .standing) .cells≤)
+
+      pub slot-corners : HasCell d cs
+      slot-corners = record { few = few; fits = omega (arith, d<, b .room, standing-room (b .standing) .corners-fit, b .standing .corners-long) }
+
+      pub slot-neighbours : HasCell d ns
+      slot-neighbours = record { few = few; fits = omega (arith, d<, b .room, standing-room (b .standing) .neighbours-fit, b .standing .neighbours-long) }
+
+    module _ (v : ℕ) (cell : Cell) (N : NewCell (b .standing .was) n (b .p) v (setOf n st) (4 * c + k) cell) where
+      far-is : getD (cell .neighbours) k 0 ≡ across t f
+      unfolding slotAcross
+      far-is = N .neighbours-are k (F .place<) ∙ rw (face-opposite c k (F .place<), eq-eqb k k refl)
+
+      pub far-has : getD (cell .neighbours) k 0 ≢ none → HasCell (getD (cell .neighbours) k 0) ns
+      far-has d = rw far-is (has-neighbours (b .standing) (across t f) (b .standing .mesh .mesh .across< f f< (λ e. d (far-is ∙ e))))
+
+      pub face-starred : (d : ℕ) → d ≡ slotOf (b .standing .was) n (b .p) (setOf n st) (4 * c + k) → {cs′ ns′ : List ℕ} →
+          cs′ ≡ withFour cs d (cell .corners) → ns′ ≡ nameBack (withFour ns d (cell .neighbours)) (getD (cell .neighbours) k 0) c d →
+          FaceDone (b .standing .was) n (b .p) v (setOf n st) (4 * c + k) cs ns cs′ ns′
+      face-starred d q x y = starred (facing c k F) record {
+        cell = cell;
+        new = N;
+        corners = x ∙ ap (λ d. withFour cs d (cell .corners)) q;
+        neighbours = y ∙ (λ ι. nameBack (withFour ns (q ι) (cell .neighbours)) (far-is ι) (sym (face-cell c k (F .place<)) ι) (q ι));
+      }

@@ -1,0 +1,73 @@
+use native.Mathlib.Omega.{arith}
+use mathlib.Core.Path.{_≡_, refl, sym, ap, _∙_, subst}
+use borrow.Author.Needs.{needs}
+use Prim.Native.Nat.{_+_, _*_}
+use Rattle.mesh.specs.Inner.{withFour, HasCell}
+use Rattle.cavity.specs.Inner.{setOf}
+use Rattle.star.specs.Inner.{passed-by, Building, Facing, slotOf, nameBack}
+use Rattle.star.proofs.Around.{set-below, standing-few}
+use Rattle.star.proofs.Slots.{number≤, number-none, number-some, number-marked, slot-corners, slot-neighbours, far-has, face-starred}
+use Rattle.star.proofs.starring.star_face.Statement.{statement}
+use Rattle.star.proofs.starring.star_face.Tie as tie
+
+seen : (c : tie.Else1) → let a = c .before .before .before .before .before .before .before .args in Facing (a .n) (a .state .now) (a .faces .now) (a .c) (a .k)
+seen c = let p = c .before .before .before .before .before .before .before .pre in number-some (p .0) _ _ (p .1) (p .2) (λ e. c .if1 .left (c .before .new-number .ensures ∙ e))
+
+slot : (c : tie.Else1) → let a = c .before .before .before .before .before .before .before .args in (b : Building (a .n) (a .state .now) (a .faces .now) (a .numbers .now) (a .corners .now) (a .neighbours .now)) →
+    c .before .new-number .result ≡ slotOf (b .standing .was) (a .n) (b .p) (setOf (a .n) (a .state .now)) (4 * a .c + a .k)
+slot c b = c .before .new-number .ensures ∙ number-marked b _ _ (c .before .before .before .before .before .before .before .pre .1) (c .before .before .before .before .before .before .before .pre .2) (seen c .marks)
+
+new-number-requires : tie.Need-new-number-requires
+new-number-requires c κs =
+    let p = c .before .before .before .before .before .pre in
+    let c< = set-below _ _ _ (p .1) in
+    let few = standing-few (p .0 .standing) in
+    (omega (arith, c<, few, p .0 .codes), omega (arith, c<, few, p .0 .numbers), p .2, number≤ (p .0) _ _ (p .1) (p .2))
+
+returns : tie.Need-returns
+returns c b = passed-by (number-none b _ _ (c .before .before .before .before .before .before .before .pre .1) (c .before .before .before .before .before .before .before .pre .2) (sym (c .before .new-number .ensures) ∙ c .if1 .taken)) refl refl
+
+new-cell-requires : tie.Need-new-cell-requires
+new-cell-requires c κs = let p = c .before .before .before .before .before .before .before .before .before .pre in (p .0, seen (c .before .before), p .3)
+
+cast-put-cell : tie.Need-cast-put-cell
+cast-put-cell c = search needs
+
+put-cell-requires : tie.Need-put-cell-requires
+put-cell-requires c κs =
+    let p = c .before .before .before .before .before .before .before .before .before .before .before .before .pre in
+    let b = p .0 in
+    let F = seen (c .before .before .before .before .before) in
+    let e = slot (c .before .before .before .before .before) b in (
+      slot-corners b _ _ F _ e,
+      slot-neighbours b _ _ F _ e,
+      omega (arith, set-below _ _ _ (p .1), standing-few (b .standing)),
+      p .2,
+      far-has b _ _ F _ _ (c .before .before .new-cell .ensures b),
+    )
+
+same-length : tie.Need-same-length
+same-length c = search needs
+
+same-length-2 : tie.Need-same-length-2
+same-length-2 c = search needs
+
+returns-2 : tie.Need-returns-2
+returns-2 c b =
+    let e = slot (c .before .before .before .before .before .before .before .before .before .before) b in
+    let r = c .before .before .before .before .before .before .before .new-cell in
+    let q = c .before .before .before .before .put-cell .ensures in
+    face-starred b _ _ (seen (c .before .before .before .before .before .before .before .before .before .before)) _ _ (r .ensures b) _ e (q .0) (q .1)
+
+pub star-face-spec : {M : Type 1} → statement M
+star-face-spec =
+    tie.close
+    (tie.spec
+    new-number-requires
+    returns
+    new-cell-requires
+    cast-put-cell
+    put-cell-requires
+    same-length
+    same-length-2
+    returns-2)

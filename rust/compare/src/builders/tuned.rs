@@ -1,0 +1,57 @@
+use plain::{Inserted, Listed, Located, Mesh, Position, Read, Sphere, Started, Tables, Written};
+
+use super::Builder;
+
+pub struct Tuned;
+
+impl Builder for Tuned {
+    fn name(&self) -> String {
+        "tuned".to_string()
+    }
+
+    fn volume6(&self, numbers: [i32; 12]) -> i64 {
+        tuned::volume6(numbers)
+    }
+
+    fn sphere_test(&self, corners: [Position; 4], p: Position) -> Sphere {
+        tuned::sphere_test(corners, p)
+    }
+
+    fn start(&self, sides: Position, tables: &mut Tables) -> Started {
+        tuned::start(sides, tables)
+    }
+
+    fn insert(&self, mesh: Mesh, tables: &mut Tables, p: Position) -> Inserted {
+        tuned::insert(mesh, tables, p)
+    }
+
+    fn insert_answers(
+        &self,
+        mesh: Mesh,
+        tables: &mut Tables,
+        answers: &[u8],
+        p: Position,
+    ) -> Inserted {
+        tuned::insert_answers(mesh, tables, answers, p)
+    }
+
+    fn insert_list(&self, mesh: Mesh, tables: &mut Tables, nodes: &[u32]) -> Listed {
+        tuned::insert_list(mesh, tables, nodes)
+    }
+
+    fn locate(&self, mesh: Mesh, tables: &mut Tables, p: Position) -> Located {
+        tuned::locate(mesh, tables, p)
+    }
+
+    fn check(&self, mesh: Mesh, tables: &mut Tables) -> bool {
+        tuned::check(mesh, tables)
+    }
+
+    fn read_nodes(&self, file: &[u8], nodes: &mut [u32]) -> Read {
+        tuned::read_nodes(file, nodes)
+    }
+
+    fn write_nodes(&self, mesh: Mesh, tables: &mut Tables, out: &mut [u8]) -> Written {
+        tuned::write_nodes(mesh, tables, out)
+    }
+}

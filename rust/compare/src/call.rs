@@ -1,0 +1,122 @@
+//! One call with all that it is lent, and what it leaves.
+
+use plain::{Inserted, Listed, Located, Mesh, Position, Read, Sphere, Started, Written};
+
+use crate::builders::Builder;
+use crate::guarded::{Guarded, GuardedTables};
+
+#[derive(Clone, Debug)]
+pub enum Call {
+    Volume6([i32; 12]),
+    SphereTest([Position; 4], Position),
+    Start(Position),
+    Insert(Position),
+    InsertAnswers(Vec<u8>, Position),
+    InsertList(Vec<u32>),
+    Locate(Position),
+    Check,
+    /// A file, and how many numbers the lent output has.
+    ReadNodes(Vec<u8>, usize),
+    /// How many bytes the lent output has.
+    WriteNodes(usize),
+}
+
+#[derive(Clone, Copy, Debug, PartialEq)]
+pub enum Answer {
+    Volume(i64),
+    Sphere(Sphere),
+    Started(Started),
+    Inserted(Inserted),
+    Listed(Listed),
+    Located(Located),
+    Checked(bool),
+    Read(Read),
+    Written(Written),
+}
+
+impl Answer {
+    /// The bits of T, or 0.
+    fn float_bits(self) -> u64 {
+        match self {
+            Answer::Sphere(sphere) => sphere.t.to_bits(),
+            Answer::Inserted(inserted) => inserted.least.to_bits(),
+            _ => 0,
+        }
+    }
+
+    pub fn is_same(self, other: Answer) -> bool {
+        self == other && self.float_bits() == other.float_bits()
+    }
+
+    /// The record that the call leaves, of those that leave one.
+    pub fn mesh(self) -> Option<Mesh> {
+        match self {
+            Answer::Started(started) if started.refusal == 0 => Some(started.mesh),
+            Answer::Inserted(inserted) => Some(inserted.mesh),
+            Answer::Listed(listed) => Some(listed.mesh),
+            _ => None,
+        }
+    }
+}
+
+/// What a call leaves: the answer, the tables, the output, and the lent input.
+pub struct Left {
+    pub answer: Answer,
+    pub tables: GuardedTables,
+    pub numbers: Guarded<u32>,
+    pub bytes: Guarded<u8>,
+}
+
+/// What an output holds before the call.
+const FILLED: u8 = 0x3C;
+
+impl Call {
+    pub fn make(&self, builder: &dyn Builder, mesh: Mesh, tables: &GuardedTables) -> Left {
+        let mut tables = tables.clone();
+        let (mut numbers, mut bytes) = self.other_slices();
+        let lent = &mut tables.lend();
+        let answer = match *self {
+            Call::Volume6(twelve) => Answer::Volume(builder.volume6(twelve)),
+            Call::SphereTest(corners, p) => Answer::Sphere(builder.sphere_test(corners, p)),
+            Call::Start(sides) => Answer::Started(builder.start(sides, lent)),
+            Call::Insert(p) => Answer::Inserted(builder.insert(mesh, lent, p)),
+            Call::InsertAnswers(_, p) => {
+                Answer::Inserted(builder.insert_answers(mesh, lent, bytes.lent(), p))
+            }
+            Call::InsertList(_) => Answer::Listed(builder.insert_list(mesh, lent, numbers.lent())),
+            Call::Locate(p) => Answer::Located(builder.locate(mesh, lent, p)),
+            Call::Check => Answer::Checked(builder.check(mesh, lent)),
+            Call::ReadNodes(..) => Answer::Read(builder.read_nodes(bytes.lent(), numbers.lend())),
+            Call::WriteNodes(_) => Answer::Written(builder.write_nodes(mesh, lent, bytes.lend())),
+        };
+        Left {
+            answer,
+            tables,
+            numbers,
+            bytes,
+        }
+    }
+
+    /// The numbers and bytes that are lent beside the tables, as input or output.
+    fn other_slices(&self) -> (Guarded<u32>, Guarded<u8>) {
+        let (numbers, bytes) = match self {
+            Call::InsertAnswers(answers, _) => (vec![], answers.clone()),
+            Call::InsertList(nodes) => (nodes.clone(), vec![]),
+            Call::ReadNodes(file, room) => (vec![FILLED as u32; *room], file.clone()),
+            Call::WriteNodes(room) => (vec![], vec![FILLED; *room]),
+            _ => (vec![], vec![]),
+        };
+        (
+            Guarded::new(&numbers, 0x5A5A_5A5A),
+            Guarded::new(&bytes, 0x5A),
+        )
+    }
+
+    /// Is the work area lent to this call?
+    pub fn is_on_tables(&self) -> bool {
+        !matches!(
+            self,
+            Call::Volume6(_) | Call::SphereTest(..) | Call::ReadNodes(..)
+        )
+    }
+}

@@ -1,0 +1,323 @@
+//! Random histories of calls: a box, tables to lend, and calls that hand on what the last one left.
+
+use plain::random::Random;
+use plain::{Mesh, Owned, Position, CELL_LIMIT, NONE, POINT_LIMIT, SIDE_LIMIT};
+
+use crate::call::{Call, Left};
+use crate::nodes::{self, Spread};
+
+/// One call and what it is lent.
+pub struct Step {
+    pub call: Call,
+    pub mesh: Mesh,
+    pub tables: Owned,
+    /// Is what the call leaves handed on?
+    pub is_kept: bool,
+}
+
+pub struct History {
+    sides: Position,
+    spread: Spread,
+    mesh: Mesh,
+    tables: Owned,
+    calls_left: u64,
+    is_begun: bool,
+}
+
+impl History {
+    pub fn new(random: &mut Random) -> History {
+        let tables = tables(random);
+        let sides = match tables.points.len() >= 3 * POINT_LIMIT {
+            true => [SIDE_LIMIT; 3],
+            false => nodes::sides(random),
+        };
+        History {
+            sides,
+            spread: nodes::spread(random),
+            mesh: Mesh::default(),
+            tables,
+            calls_left: 5 + random.below(40),
+            is_begun: false,
+        }
+    }
+
+    pub fn is_over(&self) -> bool {
+        self.calls_left == 0
+    }
+
+    pub fn next(&mut self, random: &mut Random) -> Step {
+        self.calls_left = self.calls_left.saturating_sub(1);
+        let has_mesh = self.mesh.cells != 0;
+        if has_mesh && random.one_in(12) {
+            rearrange(random, self.mesh, &mut self.tables);
+        }
+        let call = match self.is_begun {
+            true => self.call(random),
+            false => Call::Start(self.sides),
+        };
+        self.is_begun = true;
+        let mut step = Step {
+            call,
+            mesh: self.mesh,
+            tables: self.tables.clone(),
+            is_kept: true,
+        };
+        fill_work(random, &mut step.tables.work);
+        if has_mesh && random.one_in(6) {
+            step.is_kept = false;
+            for _ in 0..=random.pick(&[0, 0, 1, 2]) {
+                damage(random, &mut step);
+            }
+        }
+        step
+    }
+
+    /// Hands on what a call left, with the work area as long as it was.
+    pub fn take(&mut self, step: &Step, left: &Left) {
+        if !step.is_kept || !step.call.is_on_tables() {
+            return;
+        }
+        let work = std::mem::take(&mut self.tables.work);
+        self.tables = Owned {
+            work,
+            ..left.tables.owned()
+        };
+        if let Some(mesh) = left.answer.mesh() {
+            self.mesh = mesh;
+            self.sides = mesh.sides();
+        }
+    }
+
+    fn call(&self, random: &mut Random) -> Call {
+        let p = self.node(random);
+        match random.below(40) {
+            0 => Call::Start(nodes::any_sides(random)),
+            1 => Call::Volume6(twelve(random)),
+            2..4 => sphere_test(random),
+            4..6 => read(random),
+            6..8 => self.write(random),
+            8..10 => Call::Check,
+            10..13 => Call::Locate(p),
+            13..17 => self.list(random),
+            17..26 => Call::Insert(p),
+            _ => Call::InsertAnswers(nodes::answers(random, self.mesh.cells as usize), p),
+        }
+    }
+
+    fn node(&self, random: &mut Random) -> Position {
+        let used = 3 * self.mesh.points as usize;
+        let points = &self.tables.points[..used.min(self.tables.points.len())];
+        nodes::node(random, self.sides, self.spread, points)
+    }
+
+    /// Any length, with up to two surplus numbers; long where the tables are.
+    fn list(&self, random: &mut Random) -> Call {
+        let long = self.tables.points.len() / 3;
+        let few = random.index(6);
+        let count = random.pick(&[0, 1, few, few, few, 20, long / 4, long]);
+        let mut numbers = match count > 100 {
+            true => nodes::filling(random, self.sides, count),
+            false => (0..count).flat_map(|_| self.node(random)).collect(),
+        };
+        for _ in 0..random.below(3) {
+            numbers.push(random.bits() as u32);
+        }
+        Call::InsertList(numbers)
+    }
+
+    fn write(&self, random: &mut Random) -> Call {
+        let exact = 12 * (self.mesh.points as usize).saturating_sub(8) + 20;
+        let short = random.index(exact);
+        Call::WriteNodes(random.pick(&[exact, exact + 7, exact - 1, short]))
+    }
+}
+
+fn read(random: &mut Random) -> Call {
+    let file = nodes::file(random);
+    let exact = file.len() / 12 * 3;
+    let short = random.index(exact + 1);
+    Call::ReadNodes(file, random.pick(&[4_000, exact, exact + 1, short]))
+}
+
+/// Twelve coordinates, one of them now and then out of range.
+fn twelve(random: &mut Random) -> [i32; 12] {
+    let limit = random.pick(&[2, 5, 131_073]);
+    let mut numbers = [0; 12].map(|_| random.below(limit) as i32);
+    if random.one_in(3) {
+        numbers[random.index(12)] = random.pick(&[-1, 131_072, 131_073, i32::MIN, i32::MAX]);
+    }
+    numbers
+}
+
+fn sphere_test(random: &mut Random) -> Call {
+    let limit = random.pick(&[3, 5, 17, 131_073]);
+    let position = |random: &mut Random| [0; 3].map(|_| random.below(limit) as u32);
+    let corners = [0; 4].map(|_| position(random));
+    let mut p = position(random);
+    if random.one_in(8) {
+        p[random.index(3)] = random.pick(&[131_072, 131_073, u32::MAX]);
+    }
+    Call::SphereTest(corners, p)
+}
+
+/// Tight, roomy, whole or over-long tables, with entries to spare and any content.
+fn tables(random: &mut Random) -> Owned {
+    let (points, cells) = match random.below(60) {
+        0 => (POINT_LIMIT, CELL_LIMIT),
+        1 => (POINT_LIMIT + 60, CELL_LIMIT + 90),
+        2..6 => (random.index(10), random.index(8)),
+        6..20 => (8 + random.index(8), 6 + random.index(60)),
+        _ => (16 + random.index(60), 60 + random.index(300)),
+    };
+    let mut spare = |n: usize| random.index(n + 1);
+    let mut tables = Owned {
+        points: vec![0; 3 * points + spare(2)],
+        corners: vec![0; 4 * cells + spare(9)],
+        neighbours: vec![0; 4 * cells + spare(9)],
+        work: vec![0; 3 * cells + spare(9)],
+    };
+    let mark = random.bits() as u16;
+    tables.points.fill(mark as u32);
+    tables.corners.fill(mark);
+    tables.neighbours.fill(mark);
+    tables
+}
+
+/// Any content; now and then cut short or made long.
+fn fill_work(random: &mut Random, work: &mut Vec<u16>) {
+    match random.below(30) {
+        0 => work.truncate(random.index(work.len() + 1)),
+        1 => work.truncate(work.len().saturating_sub(1 + random.index(40))),
+        2 => work.resize(work.len() + random.index(100), 0),
+        _ => {}
+    }
+    let mark = random.bits() as u16;
+    work.fill(mark);
+    for _ in 0..random.below(20) {
+        let place = random.index(work.len());
+        if let Some(entry) = work.get_mut(place) {
+            *entry = random.bits() as u16;
+        }
+    }
+}
+
+/// A number that a table or record might wrongly hold instead of `number`.
+fn wrong(random: &mut Random, number: u32, limit: u32) -> u32 {
+    let any = random.bits() as u32;
+    let near = random.below(limit as u64 + 1) as u32;
+    let (up, down) = (number.wrapping_add(1), number.wrapping_sub(1));
+    random.pick(&[0, up, down, up, down, near, near, limit, 65_535, any])
+}
+
+fn damage(random: &mut Random, step: &mut Step) {
+    match random.below(8) {
+        0 => damage_record(random, &mut step.mesh),
+        1 => cut(random, &mut step.tables),
+        2 => fold(&mut step.mesh, &mut step.tables),
+        _ => damage_tables(random, step.mesh, &mut step.tables),
+    }
+}
+
+fn damage_record(random: &mut Random, mesh: &mut Mesh) {
+    let limit = random.pick(&[10, 1_025, 4_097, 131_073]);
+    let field = match random.below(5) {
+        0 => &mut mesh.x,
+        1 => &mut mesh.y,
+        2 => &mut mesh.z,
+        3 => &mut mesh.points,
+        _ => &mut mesh.cells,
+    };
+    *field = wrong(random, *field, limit);
+}
+
+fn cut(random: &mut Random, tables: &mut Owned) {
+    match random.below(4) {
+        0 => tables
+            .points
+            .truncate(random.index(tables.points.len() + 1)),
+        1 => tables
+            .corners
+            .truncate(random.index(tables.corners.len() + 1)),
+        2 => tables
+            .neighbours
+            .truncate(random.index(tables.neighbours.len() + 1)),
+        _ => tables.work.truncate(random.index(tables.work.len() + 1)),
+    }
+}
+
+fn damage_tables(random: &mut Random, mesh: Mesh, tables: &mut Owned) {
+    let (points, cells) = (mesh.points as usize, mesh.cells as usize);
+    let in_points = random.index(points.saturating_mul(3).min(tables.points.len()));
+    let in_cells = random.index(cells.saturating_mul(4).min(tables.corners.len()));
+    match random.below(4) {
+        0 => {
+            if let Some(entry) = tables.points.get_mut(in_points) {
+                *entry = wrong(random, *entry, mesh.x);
+            }
+        }
+        1 => {
+            if let Some(entry) = tables.corners.get_mut(in_cells) {
+                *entry = wrong(random, *entry as u32, mesh.points) as u16;
+            }
+        }
+        2 => {
+            if let Some(entry) = tables.neighbours.get_mut(in_cells) {
+                *entry = wrong(random, *entry as u32, mesh.cells) as u16;
+            }
+        }
+        _ => {
+            // Two places of one table swapped: often of one cell.
+            let other = random.pick(&[in_cells / 4 * 4, in_cells ^ 1, in_cells ^ 2, in_points]);
+            let table = match random.one_in(2) {
+                true => &mut tables.corners,
+                false => &mut tables.neighbours,
+            };
+            if in_cells.max(other) < table.len() {
+                table.swap(in_cells, other);
+            }
+        }
+    }
+}
+
+/// Three of the started cells, each twice and mated with its double: all of a mesh but the far-side test.
+fn fold(mesh: &mut Mesh, tables: &mut Owned) {
+    if tables.points.len() < 24 || tables.corners.len() < 24 || tables.neighbours.len() < 24 {
+        return;
+    }
+    (mesh.points, mesh.cells) = (8, 6);
+    for (k, cell) in [[0, 1, 3, 7], [0, 2, 6, 7], [0, 4, 5, 7]]
+        .iter()
+        .enumerate()
+    {
+        for (c, double) in [(2 * k, 2 * k + 1), (2 * k + 1, 2 * k)] {
+            tables.corners[4 * c..4 * c + 4].copy_from_slice(cell);
+            tables.neighbours[4 * c..4 * c + 4].fill(double as u16);
+        }
+    }
+}
+
+/// Leaves a mesh a mesh that no history of insertions gives: a cell's places turned, or two cells' numbers swapped.
+fn rearrange(random: &mut Random, mesh: Mesh, tables: &mut Owned) {
+    let cells = mesh.cells as usize;
+    let (a, b) = (random.index(cells), random.index(cells));
+    if random.one_in(2) {
+        // Three places turned: an even permutation.
+        let kept = random.index(2);
+        for table in [&mut tables.corners, &mut tables.neighbours] {
+            table[4 * a + kept..4 * a + kept + 3].rotate_left(1);
+        }
+        return;
+    }
+    for table in [&mut tables.corners, &mut tables.neighbours] {
+        for i in 0..4 {
+            table.swap(4 * a + i, 4 * b + i);
+        }
+    }
+    for entry in &mut tables.neighbours[..4 * cells] {
+        if *entry == a as u16 {
+            *entry = b as u16;
+        } else if *entry == b as u16 && *entry != NONE {
+            *entry = a as u16;
+        }
+    }
+}

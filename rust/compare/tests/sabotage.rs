@@ -1,0 +1,131 @@
+//! The comparison sees a single wrong entry or bit.
+
+use compare::{run, Builder, Tuned};
+use plain::{Inserted, Listed, Located, Mesh, Position, Read, Sphere, Started, Tables, Written};
+
+#[derive(Clone, Copy)]
+enum Harm {
+    None,
+    /// A work entry is left.
+    Work,
+    /// An entry past the cells is cleared.
+    Corner,
+    /// The least T of handed-in answers is −0.0.
+    Sign,
+    /// A refused record is cleared.
+    Record,
+    /// A byte past the written file is cleared.
+    Byte,
+    /// The list's place is one more.
+    Place,
+}
+
+/// `tuned` with one harm done.
+struct Harmed(Harm);
+
+impl Harmed {
+    fn harm(&self, tables: &mut Tables) {
+        match self.0 {
+            Harm::Work => tables.work.iter_mut().rev().take(1).for_each(|w| *w = 1),
+            Harm::Corner => tables.corners.iter_mut().rev().take(1).for_each(|c| *c = 0),
+            _ => {}
+        }
+    }
+}
+
+impl Builder for Harmed {
+    fn name(&self) -> String {
+        "harmed".to_string()
+    }
+
+    fn volume6(&self, numbers: [i32; 12]) -> i64 {
+        Tuned.volume6(numbers)
+    }
+
+    fn sphere_test(&self, corners: [Position; 4], p: Position) -> Sphere {
+        Tuned.sphere_test(corners, p)
+    }
+
+    fn start(&self, sides: Position, tables: &mut Tables) -> Started {
+        Tuned.start(sides, tables)
+    }
+
+    fn insert(&self, mesh: Mesh, tables: &mut Tables, p: Position) -> Inserted {
+        let mut answer = Tuned.insert(mesh, tables, p);
+        if matches!(self.0, Harm::Record) && answer.refusal != 0 {
+            answer.mesh = Mesh::default();
+        }
+        answer
+    }
+
+    fn insert_answers(
+        &self,
+        mesh: Mesh,
+        tables: &mut Tables,
+        answers: &[u8],
+        p: Position,
+    ) -> Inserted {
+        let mut answer = Tuned.insert_answers(mesh, tables, answers, p);
+        if matches!(self.0, Harm::Sign) {
+            answer.least = -answer.least;
+        }
+        answer
+    }
+
+    fn insert_list(&self, mesh: Mesh, tables: &mut Tables, nodes: &[u32]) -> Listed {
+        let mut answer = Tuned.insert_list(mesh, tables, nodes);
+        answer.place += matches!(self.0, Harm::Place) as u32;
+        answer
+    }
+
+    fn locate(&self, mesh: Mesh, tables: &mut Tables, p: Position) -> Located {
+        let answer = Tuned.locate(mesh, tables, p);
+        self.harm(tables);
+        answer
+    }
+
+    fn check(&self, mesh: Mesh, tables: &mut Tables) -> bool {
+        Tuned.check(mesh, tables)
+    }
+
+    fn read_nodes(&self, file: &[u8], nodes: &mut [u32]) -> Read {
+        Tuned.read_nodes(file, nodes)
+    }
+
+    fn write_nodes(&self, mesh: Mesh, tables: &mut Tables, out: &mut [u8]) -> Written {
+        let answer = Tuned.write_nodes(mesh, tables, out);
+        if matches!(self.0, Harm::Byte) && out.len() > answer.bytes as usize {
+            out[answer.bytes as usize] = 0;
+        }
+        answer
+    }
+}
+
+fn found(left: Harm, right: Harm) -> Option<String> {
+    let difference = run(&Harmed(left), &Harmed(right), 1, 2_000).err()?;
+    Some(difference.what)
+}
+
+#[test]
+fn every_harm_is_found() {
+    let cases = [
+        (Harm::Work, "work["),
+        (Harm::Corner, "corners["),
+        (Harm::Sign, "answer: "),
+        (Harm::Record, "answer: "),
+        (Harm::Byte, "bytes["),
+        (Harm::Place, "answer: "),
+    ];
+    for (harm, what) in cases {
+        for difference in [found(harm, Harm::None), found(Harm::None, harm)] {
+            assert!(difference.is_some_and(|found| found.starts_with(what)));
+        }
+    }
+    assert_eq!(found(Harm::None, Harm::None), None);
+}
+
+#[test]
+fn a_work_area_that_neither_clears_is_found() {
+    let difference = found(Harm::Work, Harm::Work);
+    assert!(difference.is_some_and(|found| found.ends_with("not cleared by both")));
+}

@@ -1,0 +1,188 @@
+//! The record, the lent tables and the answers, laid out as in `gantry.h`.
+//! A field that a refusal leaves without meaning is 0.
+
+/// No neighbour.
+pub const NONE: u16 = 65_535;
+pub const SIDE_LIMIT: u32 = 131_072;
+pub const POINT_LIMIT: usize = 1_024;
+pub const CELL_LIMIT: usize = 4_096;
+/// A node file's count is at most the points that are not box corners.
+pub const NODE_LIMIT: usize = POINT_LIMIT - 8;
+
+pub type Position = [u32; 3];
+
+/// The record: sides, point count and cell count.
+#[repr(C)]
+#[derive(Clone, Copy, Debug, Default, PartialEq, Eq)]
+pub struct Mesh {
+    pub x: u32,
+    pub y: u32,
+    pub z: u32,
+    pub points: u32,
+    pub cells: u32,
+}
+
+impl Mesh {
+    pub fn sides(self) -> Position {
+        [self.x, self.y, self.z]
+    }
+}
+
+/// The four tables that every call on a mesh is lent.
+pub struct Tables<'a> {
+    pub points: &'a mut [u32],
+    pub corners: &'a mut [u16],
+    pub neighbours: &'a mut [u16],
+    pub work: &'a mut [u16],
+}
+
+impl Tables<'_> {
+    pub fn point_capacity(&self) -> usize {
+        POINT_LIMIT.min(self.points.len() / 3)
+    }
+
+    pub fn cell_capacity(&self) -> usize {
+        CELL_LIMIT
+            .min(self.corners.len() / 4)
+            .min(self.neighbours.len() / 4)
+            .min(self.work.len() / 3)
+    }
+
+    pub fn are_short(&self) -> bool {
+        self.point_capacity() < 8 || self.cell_capacity() < 6
+    }
+}
+
+/// Tables of one's own, to lend.
+#[derive(Clone, Debug, PartialEq, Eq)]
+pub struct Owned {
+    pub points: Vec<u32>,
+    pub corners: Vec<u16>,
+    pub neighbours: Vec<u16>,
+    pub work: Vec<u16>,
+}
+
+impl Owned {
+    pub fn with_room(points: usize, cells: usize) -> Owned {
+        Owned {
+            points: vec![0; 3 * points],
+            corners: vec![0; 4 * cells],
+            neighbours: vec![0; 4 * cells],
+            work: vec![0; 3 * cells],
+        }
+    }
+
+    pub fn largest() -> Owned {
+        Owned::with_room(POINT_LIMIT, CELL_LIMIT)
+    }
+
+    pub fn lend(&mut self) -> Tables<'_> {
+        Tables {
+            points: &mut self.points,
+            corners: &mut self.corners,
+            neighbours: &mut self.neighbours,
+            work: &mut self.work,
+        }
+    }
+}
+
+pub fn sides_in_range(sides: Position) -> bool {
+    sides.iter().all(|&s| (1..=SIDE_LIMIT).contains(&s))
+}
+
+pub fn in_box(sides: Position, p: Position) -> bool {
+    (0..3).all(|axis| p[axis] <= sides[axis])
+}
+
+#[repr(C)]
+#[derive(Clone, Copy, Debug, Default, PartialEq, Eq)]
+pub struct Started {
+    pub refusal: u8,
+    pub mesh: Mesh,
+}
+
+impl Started {
+    pub fn refused(refusal: u8) -> Started {
+        Started {
+            refusal,
+            ..Started::default()
+        }
+    }
+}
+
+/// An insertion's record and report.
+#[repr(C)]
+#[derive(Clone, Copy, Debug, Default, PartialEq)]
+pub struct Inserted {
+    pub refusal: u8,
+    pub mesh: Mesh,
+    pub point: u32,
+    pub before: u32,
+    pub after: u32,
+    pub made: u32,
+    pub least: f64,
+}
+
+impl Inserted {
+    pub fn refused(refusal: u8, mesh: Mesh) -> Inserted {
+        Inserted {
+            refusal,
+            mesh,
+            ..Inserted::default()
+        }
+    }
+}
+
+/// `place` is the refused node's place in the list, or how many nodes went in.
+#[repr(C)]
+#[derive(Clone, Copy, Debug, Default, PartialEq, Eq)]
+pub struct Listed {
+    pub refusal: u8,
+    pub mesh: Mesh,
+    pub place: u32,
+}
+
+#[repr(C)]
+#[derive(Clone, Copy, Debug, Default, PartialEq, Eq)]
+pub struct Located {
+    pub refusal: u8,
+    pub cell: u32,
+}
+
+pub const INSIDE: u8 = 1;
+pub const OUTSIDE: u8 = 2;
+pub const CLOSE: u8 = 3;
+
+#[repr(C)]
+#[derive(Clone, Copy, Debug, Default, PartialEq)]
+pub struct Sphere {
+    pub refusal: u8,
+    pub answer: u8,
+    pub t: f64,
+}
+
+#[repr(C)]
+#[derive(Clone, Copy, Debug, Default, PartialEq, Eq)]
+pub struct Read {
+    pub refusal: u8,
+    pub x: u32,
+    pub y: u32,
+    pub z: u32,
+    pub count: u32,
+}
+
+impl Read {
+    pub fn refused(refusal: u8) -> Read {
+        Read {
+            refusal,
+            ..Read::default()
+        }
+    }
+}
+
+#[repr(C)]
+#[derive(Clone, Copy, Debug, Default, PartialEq, Eq)]
+pub struct Written {
+    pub refusal: u8,
+    pub bytes: u32,
+}

@@ -1,0 +1,81 @@
+//! An obvious build of document 01: each call loads the lent tables into lists, works on those, and stores the result.
+//! Nothing here is made fast; it is written to be compared with.
+
+pub mod calls;
+pub mod cavity;
+pub mod check;
+pub mod geometry;
+pub mod insertion;
+pub mod listing;
+pub mod loaded;
+pub mod nodefile;
+pub mod random;
+pub mod star;
+
+pub use calls::*;
+pub use cavity::Fault;
+pub use check::check;
+pub use geometry::{sphere_test, volume6, OUT_OF_RANGE};
+pub use insertion::{insert, insert_answers, insert_list, insert_list_with, insert_with, Answers};
+pub use listing::listing;
+pub use nodefile::{read_nodes, write_nodes};
+
+use loaded::{Loaded, STARTED_CORNERS};
+
+/// Starts a mesh in a box: eight points, six cells.
+pub fn start(sides: Position, tables: &mut Tables) -> Started {
+    let answer = started(sides, tables);
+    tables.work.fill(0);
+    answer
+}
+
+fn started(sides: Position, tables: &mut Tables) -> Started {
+    if tables.are_short() {
+        return Started::refused(1);
+    }
+    if !sides_in_range(sides) {
+        return Started::refused(2);
+    }
+    let mesh = Mesh {
+        x: sides[0],
+        y: sides[1],
+        z: sides[2],
+        points: 8,
+        cells: 6,
+    };
+    for k in 0..8 {
+        tables.points[3 * k..3 * k + 3].copy_from_slice(&loaded::box_corner(sides, k));
+    }
+    for (k, corners) in STARTED_CORNERS.iter().enumerate() {
+        let neighbours = [NONE, (k as u16 + 1) % 6, (k as u16 + 5) % 6, NONE];
+        tables.corners[4 * k..4 * k + 4].copy_from_slice(corners);
+        tables.neighbours[4 * k..4 * k + 4].copy_from_slice(&neighbours);
+    }
+    Started { refusal: 0, mesh }
+}
+
+/// The lowest-numbered cell that holds the position.
+pub fn locate(mesh: Mesh, tables: &mut Tables, p: Position) -> Located {
+    let answer = located(mesh, tables, p);
+    tables.work.fill(0);
+    answer
+}
+
+fn located(mesh: Mesh, tables: &Tables, p: Position) -> Located {
+    let refused = |refusal| Located { refusal, cell: 0 };
+    let refusal = check::mesh_refusal(mesh, tables, usize::MAX);
+    if refusal != 0 {
+        return refused(refusal);
+    }
+    if !in_box(mesh.sides(), p) {
+        return refused(4);
+    }
+    let loaded = Loaded::load(mesh, tables);
+    match (0..loaded.cells.len()).find(|&c| loaded.holds(c, p)) {
+        Some(c) => Located {
+            refusal: 0,
+            cell: c as u32,
+        },
+        None => refused(7),
+    }
+}

@@ -1,0 +1,65 @@
+#![allow(dead_code)]
+
+use plain::{Inserted, Mesh, Owned, Position};
+
+/// A record with tables of its own.
+#[derive(Clone, Debug, PartialEq, Eq)]
+pub struct Kit {
+    pub mesh: Mesh,
+    pub tables: Owned,
+}
+
+impl Kit {
+    pub fn started(sides: Position, points: usize, cells: usize) -> Kit {
+        let mut tables = Owned::with_room(points, cells);
+        let started = plain::start(sides, &mut tables.lend());
+        assert_eq!(started.refusal, 0);
+        Kit {
+            mesh: started.mesh,
+            tables,
+        }
+    }
+
+    pub fn box4() -> Kit {
+        Kit::started([4, 4, 4], 64, 256)
+    }
+
+    /// Fills the work area, so that a call that relied on its content would show.
+    pub fn insert(&mut self, p: Position) -> Inserted {
+        self.tables.work.fill(0xAAAA);
+        let answer = plain::insert(self.mesh, &mut self.tables.lend(), p);
+        self.take(answer)
+    }
+
+    pub fn insert_answers(&mut self, answers: &[u8], p: Position) -> Inserted {
+        self.tables.work.fill(0x5555);
+        let answer = plain::insert_answers(self.mesh, &mut self.tables.lend(), answers, p);
+        self.take(answer)
+    }
+
+    fn take(&mut self, answer: Inserted) -> Inserted {
+        assert!(self.tables.work.iter().all(|&w| w == 0));
+        self.mesh = answer.mesh;
+        answer
+    }
+
+    pub fn check(&mut self) -> bool {
+        plain::check(self.mesh, &mut self.tables.lend())
+    }
+
+    pub fn volumes(&self) -> Vec<i64> {
+        let corners = self.tables.corners.chunks_exact(4);
+        let of = |cell: &[u16]| {
+            let mut numbers = [0; 12];
+            for (k, number) in numbers.iter_mut().enumerate() {
+                *number = self.tables.points[3 * cell[k / 3] as usize + k % 3] as i32;
+            }
+            plain::volume6(numbers)
+        };
+        corners.take(self.mesh.cells as usize).map(of).collect()
+    }
+
+    pub fn has_corner(&self, point: u32) -> bool {
+        self.tables.corners[..4 * self.mesh.cells as usize].contains(&(point as u16))
+    }
+}

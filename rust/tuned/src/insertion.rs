@@ -1,0 +1,163 @@
+//! The three insertion calls. A list checks the mesh once: an accepted insertion leaves a mesh.
+
+use plain::{in_box, Answers, Inserted, Listed, Mesh, Position, Tables};
+
+use crate::cavity::{Cavity, Corrected, Scratch};
+use crate::check::{mesh_refusal, used};
+use crate::star::write_star;
+
+pub fn insert(mesh: Mesh, tables: &mut Tables, p: Position) -> Inserted {
+    insert_one(mesh, tables, Answers::Float, usize::MAX, p)
+}
+
+pub fn insert_answers(mesh: Mesh, tables: &mut Tables, answers: &[u8], p: Position) -> Inserted {
+    insert_one(mesh, tables, Answers::Given(answers), answers.len(), p)
+}
+
+fn insert_one(
+    mesh: Mesh,
+    tables: &mut Tables,
+    answers: Answers,
+    answer_bytes: usize,
+    p: Position,
+) -> Inserted {
+    tables.work.fill(0);
+    let refusal = mesh_refusal(mesh, tables, answer_bytes);
+    if refusal != 0 {
+        return Inserted::refused(refusal, mesh);
+    }
+    let answer = insert_in_mesh(mesh, tables, &mut Scratch::new(), answers, p);
+    tables.work.fill(0);
+    answer
+}
+
+pub fn insert_list(mesh: Mesh, tables: &mut Tables, nodes: &[u32]) -> Listed {
+    tables.work.fill(0);
+    let refusal = mesh_refusal(mesh, tables, usize::MAX);
+    if refusal != 0 {
+        return Listed {
+            refusal,
+            mesh,
+            place: 0,
+        };
+    }
+    let answer = insert_nodes(mesh, tables, nodes);
+    tables.work.fill(0);
+    answer
+}
+
+fn insert_nodes(mut mesh: Mesh, tables: &mut Tables, nodes: &[u32]) -> Listed {
+    let mut scratch = Scratch::new();
+    let (nodes, _) = nodes.as_chunks();
+    for (place, &p) in nodes.iter().enumerate() {
+        let inserted = insert_in_mesh(mesh, tables, &mut scratch, Answers::Float, p);
+        if inserted.refusal != 0 {
+            return Listed {
+                refusal: inserted.refusal,
+                mesh,
+                place: place as u32,
+            };
+        }
+        mesh = inserted.mesh;
+    }
+    Listed {
+        refusal: 0,
+        mesh,
+        place: nodes.len() as u32,
+    }
+}
+
+/// Refusals 4 to 8, and the insertion, in tables that pass the mesh check. The states are 0 before, and after an accepted
+/// insertion again.
+fn insert_in_mesh(
+    mesh: Mesh,
+    tables: &mut Tables,
+    scratch: &mut Scratch,
+    answers: Answers,
+    p: Position,
+) -> Inserted {
+    if !in_box(mesh.sides(), p) {
+        return Inserted::refused(4, mesh);
+    }
+    let points = mesh.points as usize;
+    scratch.codes.set(used(mesh, tables).0, p);
+    if scratch.codes.is_taken(points) {
+        return Inserted::refused(5, mesh);
+    }
+    if points == tables.point_capacity() {
+        return Inserted::refused(6, mesh);
+    }
+    let corrected = corrected_cavity(mesh, tables, scratch, answers, p);
+    if corrected.before == 0 {
+        return Inserted::refused(7, mesh);
+    }
+    let cells = mesh.cells as usize;
+    if cells + corrected.made > tables.cell_capacity() {
+        return Inserted::refused(8, mesh);
+    }
+    let numbers = &mut scratch.numbers;
+    write_star(tables, numbers, points as u16, cells, &corrected);
+    forget(tables, &corrected);
+    tables.points[3 * points..3 * points + 3].copy_from_slice(&p);
+    Inserted {
+        refusal: 0,
+        mesh: Mesh {
+            points: mesh.points + 1,
+            cells: (cells + corrected.made - corrected.after) as u32,
+            ..mesh
+        },
+        point: mesh.points,
+        before: corrected.before as u32,
+        after: corrected.after as u32,
+        made: corrected.made as u32,
+        least: match answers {
+            Answers::Float => corrected.least,
+            Answers::Given(_) => 0.0,
+        },
+    }
+}
+
+/// Base, growth and correction; nothing but the work area is written.
+fn corrected_cavity(
+    mesh: Mesh,
+    tables: &mut Tables,
+    scratch: &mut Scratch,
+    answers: Answers,
+    p: Position,
+) -> Corrected {
+    let capacity = tables.cell_capacity();
+    let (states, rest) = tables.work.split_at_mut(capacity);
+    let mut cavity = Cavity {
+        points: &tables.points.as_chunks().0[..mesh.points as usize],
+        corners: &tables.corners.as_chunks().0[..mesh.cells as usize],
+        neighbours: &tables.neighbours.as_chunks().0[..mesh.cells as usize],
+        states,
+        list: &mut rest[..capacity],
+        len: 0,
+        back: capacity,
+        least: f64::INFINITY,
+    };
+    cavity.add_base(&scratch.codes, answers, p);
+    cavity.grow(answers, p);
+    let before = cavity.len;
+    let made = cavity.correct(scratch);
+    cavity.sort();
+    Corrected {
+        before,
+        after: cavity.len,
+        made,
+        back: cavity.back,
+        least: cavity.least,
+    }
+}
+
+/// Clears the states, so that the next node of a list finds none.
+fn forget(tables: &mut Tables, corrected: &Corrected) {
+    let capacity = tables.cell_capacity();
+    let (states, rest) = tables.work.split_at_mut(capacity);
+    let list = &rest[..capacity];
+    let no = &list[corrected.back..];
+    for &c in list[..corrected.before].iter().chain(no) {
+        states[c as usize] = 0;
+    }
+}

@@ -1,0 +1,47 @@
+//! The calls of document 01, made fast: volumes in i64 that share cross products, lists of cavity cells in the work area,
+//! side codes instead of volumes where they decide, kept cells moved by runs, the far-side test by parity.
+//! Every answer and every entry equals that of `plain`. From there come the record and answer types, and what has nothing
+//! to gain: the start, the sphere answer's three cases and the node file's reader.
+
+mod cavity;
+mod check;
+mod geometry;
+mod insertion;
+mod nodefile;
+mod side_codes;
+mod star;
+
+pub use check::check;
+pub use geometry::{sphere_test, volume6};
+pub use insertion::{insert, insert_answers, insert_list};
+pub use nodefile::write_nodes;
+pub use plain::{read_nodes, start};
+pub use plain::{
+    Inserted, Listed, Located, Mesh, Owned, Position, Read, Sphere, Started, Tables, Written,
+};
+
+use plain::in_box;
+use side_codes::SideCodes;
+
+/// The lowest-numbered cell that holds the position.
+pub fn locate(mesh: Mesh, tables: &mut Tables, p: Position) -> Located {
+    tables.work.fill(0);
+    let refused = |refusal| Located { refusal, cell: 0 };
+    let refusal = check::mesh_refusal(mesh, tables, usize::MAX);
+    if refusal != 0 {
+        return refused(refusal);
+    }
+    if !in_box(mesh.sides(), p) {
+        return refused(4);
+    }
+    let (points, corners, _) = check::used(mesh, tables);
+    let mut codes = SideCodes::new();
+    codes.set(points, p);
+    match (0..corners.len()).find(|&c| codes.cell_holds(points, corners[c], p)) {
+        Some(c) => Located {
+            refusal: 0,
+            cell: c as u32,
+        },
+        None => refused(7),
+    }
+}

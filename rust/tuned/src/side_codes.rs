@@ -1,0 +1,39 @@
+//! Side codes: for each point six bits, below or above P on each axis. A cell holds P only where its four codes share no
+//! bit: P is then in the cell's bounding box. Code 0 is a point at P.
+
+use plain::{Position, POINT_LIMIT};
+
+use crate::geometry::{offset, sides};
+
+pub struct SideCodes([u8; POINT_LIMIT]);
+
+impl SideCodes {
+    pub fn new() -> SideCodes {
+        SideCodes([0; POINT_LIMIT])
+    }
+
+    pub fn set(&mut self, points: &[Position], p: Position) {
+        for (code, q) in self.0.iter_mut().zip(points) {
+            let bits = |axis: usize| (q[axis] < p[axis]) as u8 | ((q[axis] > p[axis]) as u8) << 1;
+            *code = bits(0) | bits(1) << 2 | bits(2) << 4;
+        }
+    }
+
+    pub fn is_taken(&self, points: usize) -> bool {
+        self.0[..points].contains(&0)
+    }
+
+    #[inline]
+    fn may_hold(&self, cell: [u16; 4]) -> bool {
+        let [a, b, c, d] = cell.map(|point| self.0[point as usize % POINT_LIMIT]);
+        a & b & c & d == 0
+    }
+
+    #[inline]
+    pub fn cell_holds(&self, points: &[Position], cell: [u16; 4], p: Position) -> bool {
+        self.may_hold(cell) && {
+            let v = sides(cell.map(|point| offset(points[point as usize], p)));
+            v.iter().all(|&side| side >= 0)
+        }
+    }
+}

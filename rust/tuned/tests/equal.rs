@@ -1,0 +1,150 @@
+//! `tuned` gives the answers and entries of `plain`, T bit for bit.
+
+use plain::random::Random;
+use plain::{Inserted, Mesh, Owned, Position};
+
+fn bits(answer: Inserted) -> (Inserted, u64) {
+    (answer, answer.least.to_bits())
+}
+
+struct Pair {
+    mesh: Mesh,
+    plain: Owned,
+    tuned: Owned,
+}
+
+impl Pair {
+    fn started(sides: Position, points: usize, cells: usize) -> Pair {
+        let mut owned = Owned::with_room(points, cells);
+        let mesh = plain::start(sides, &mut owned.lend()).mesh;
+        Pair {
+            mesh,
+            plain: owned.clone(),
+            tuned: owned,
+        }
+    }
+
+    fn insert(&mut self, p: Position) -> u8 {
+        self.tuned.work.fill(0xAAAA);
+        let left = plain::insert(self.mesh, &mut self.plain.lend(), p);
+        let right = tuned::insert(self.mesh, &mut self.tuned.lend(), p);
+        assert_eq!(bits(left), bits(right));
+        assert_eq!(self.plain, self.tuned);
+        self.mesh = left.mesh;
+        left.refusal
+    }
+
+    fn insert_answers(&mut self, answers: &[u8], p: Position) {
+        let left = plain::insert_answers(self.mesh, &mut self.plain.lend(), answers, p);
+        let right = tuned::insert_answers(self.mesh, &mut self.tuned.lend(), answers, p);
+        assert_eq!(bits(left), bits(right));
+        assert_eq!(self.plain, self.tuned);
+        self.mesh = left.mesh;
+    }
+
+    fn insert_list(&mut self, nodes: &[u32]) {
+        let left = plain::insert_list(self.mesh, &mut self.plain.lend(), nodes);
+        let right = tuned::insert_list(self.mesh, &mut self.tuned.lend(), nodes);
+        assert_eq!(left, right);
+        assert_eq!(self.plain, self.tuned);
+        self.mesh = left.mesh;
+    }
+
+    fn locate(&mut self, p: Position) {
+        let left = plain::locate(self.mesh, &mut self.plain.lend(), p);
+        assert_eq!(left, tuned::locate(self.mesh, &mut self.tuned.lend(), p));
+    }
+}
+
+fn position(random: &mut Random, side: u32, spacing: u32) -> Position {
+    [0; 3].map(|_| random.below((side / spacing) as u64 + 1) as u32 * spacing)
+}
+
+#[test]
+fn single_insertions() {
+    for seed in 0..30 {
+        let mut random = Random::new(seed);
+        let side = random.pick(&[4, 16, 131_072]);
+        let spacing = if side == 131_072 {
+            random.pick(&[1, 8_192])
+        } else {
+            1
+        };
+        let mut pair = Pair::started([side; 3], 60, 300);
+        for _ in 0..40 {
+            let p = position(&mut random, side, spacing);
+            let cells = pair.mesh.cells as usize;
+            match random.below(4) {
+                0 => pair.insert_answers(&vec![1; cells], p),
+                1 => pair.insert_answers(&vec![0; cells], p),
+                2 => {
+                    let bytes: Vec<u8> = (0..cells).map(|_| random.below(2) as u8).collect();
+                    pair.insert_answers(&bytes, p)
+                }
+                _ => {
+                    pair.insert(p);
+                }
+            }
+            pair.locate(position(&mut random, side + side / 4, spacing));
+        }
+    }
+}
+
+#[test]
+fn lists() {
+    for seed in 0..10 {
+        let mut random = Random::new(seed);
+        let side = random.pick(&[9, 131_072]);
+        let mut pair = Pair::started([side; 3], 200, 900);
+        for _ in 0..6 {
+            let nodes: Vec<Position> = (0..25).map(|_| position(&mut random, side, 1)).collect();
+            pair.insert_list(nodes.as_flattened());
+        }
+    }
+}
+
+#[test]
+fn a_lattice_that_fills_the_tables() {
+    let mut pair = Pair::started([6; 3], 1_024, 1_300);
+    let lattice: Vec<Position> = (0..343u32)
+        .map(|k| [k % 7, k / 7 % 7, k / 49])
+        .filter(|p| p.iter().any(|&n| n != 0 && n != 6))
+        .collect();
+    pair.insert_list(lattice.as_flattened());
+    assert!(pair.mesh.cells > 1_000);
+}
+
+#[test]
+fn every_table_entry_changed() {
+    let mut random = Random::new(1);
+    let mut pair = Pair::started([4; 3], 12, 60);
+    pair.insert([1, 2, 3]);
+    pair.insert([2, 0, 2]);
+    let mesh = pair.mesh;
+    for table in 0..3 {
+        let used = if table == 0 {
+            3 * mesh.points
+        } else {
+            4 * mesh.cells
+        };
+        for place in 0..used as usize {
+            let mut left = pair.plain.clone();
+            let number = random.pick(&[0, 1, 2, 3, 4, 5, 8, 65_535]);
+            match table {
+                0 => left.points[place] = number as u32,
+                1 => left.corners[place] = number,
+                _ => left.neighbours[place] = number,
+            }
+            let mut right = left.clone();
+            let yes = plain::check(mesh, &mut left.lend());
+            assert_eq!(yes, tuned::check(mesh, &mut right.lend()));
+            let p = [3, 3, 1];
+            let inserted = plain::insert(mesh, &mut left.lend(), p);
+            assert_eq!(
+                bits(inserted),
+                bits(tuned::insert(mesh, &mut right.lend(), p))
+            );
+            assert_eq!(left, right);
+        }
+    }
+}
