@@ -1,3 +1,4 @@
 pub mod Insertion
 pub mod List
 pub mod Calls
+pub mod Inner

@@ -1,4 +1,9 @@
 // The insertion calls: one node by the float sphere test, one node by answers handed in, and a list of nodes.
+
+pub mod inserting;
+pub mod nodes;
+pub mod single;
+
 use mesh::Mesh;
 
 // Point number, cavity size before and after correction, cells made, and the least T over the cavity before correction.

@@ -1,29 +1,29 @@
 -- Face codes count the visible faces, and so number the new cells.
 use Prim.Native.Nat.{ℕ, zero, suc, _+_, _*_, _%_, _/_, _^_, _≤_, _<_}
-use mathlib.Core.Bool.{Bool, true, false, not, _&&_, cond}
+use mathlib.Core.Bool.{Bool, true, false, not, cond}
 use mathlib.Core.List.{List}
 use mathlib.Core.Logic.{_⊎_, inl, inr}
-use mathlib.Core.Path.{_≡_, refl, sym, ap, ap₂, _∙_, subst}
+use mathlib.Core.Path.{_≡_, refl, sym, ap, ap₂, _∙_}
 use native.Mathlib.Omega.{arith}
 use native.Mathlib.Numerals.{add-one}
 use native.Mathlib.Nat.{add-zero}
 use borrow.Author.Tests.{ne-eqb, lt-ltb}
 use lib.Dec.{eqb, ltb}
-use lib.ListN.{length, getD, set, length-set}
+use lib.ListN.{length, getD, set}
 use lib.Seq.{getD-set-same, getD-set-other}
 use mir.Val.{boolByte}
 use Rattle.arith.specs.Table.{countBelow}
 use Rattle.arith.proofs.Counting.{count-cong, count-none, count-append, count-le}
-use Rattle.arith.proofs.Flags.{split, clash, below-four, and-left}
+use Rattle.arith.proofs.Flags.{split, below-four}
 use Rattle.arith.proofs.Tables.{tabulate-at, below-more}
 use Rattle.geometry.specs.declared.Position.{Position}
-use Rattle.mesh.specs.Tables.{Tables, cellOf, across}
+use Rattle.mesh.specs.Tables.{Tables}
 use Rattle.mesh.specs.Mesh.{bit}
 use Rattle.mesh.proofs.FaceNumbers.{face-cell}
 use Rattle.mesh.proofs.Numbers.{byte≤}
 use Rattle.cavity.specs.Cavity.{inSet, outer, visible, facesGood}
 use Rattle.cavity.specs.Inner.{inside, setOf, facesCode, Inspected}
-use Rattle.star.specs.Star.{kept?, keptNumber, madeCount}
+use Rattle.star.specs.Star.{kept?, keptNumber}
 use Rattle.star.specs.Inner.{marked, slotOf, numberOf}
 
 -- ---- bits

@@ -19,7 +19,6 @@ use Rattle.mesh.proofs.FaceNumbers.{face-cell, face-opposite, face-eq, opposite
 use Rattle.cavity.specs.Cavity.{inSet, visible}
 use Rattle.cavity.specs.Inner.{inside, setOf}
 use Rattle.cavity.proofs.Tests.{visible-of}
-use Rattle.star.specs.Star.{madeCount}
 use Rattle.star.specs.Inner.{FaceDone, starred, passed-by, Starred, Replacing, Building}
 use Rattle.star.proofs.Codes.{set-at}
 use Rattle.star.proofs.Around.{set-below}
@@ -40,9 +39,6 @@ module _ {t : Tables} {np n : ℕ} {p : Position} {st li : List ℕ} {size : ℕ
   abbrev R : Room (pointCapacity t) (cellCapacity t (B .mesh .w)) t
   R = room-of t (B .mesh .w)
 
-  pub room : n + madeCount t n p (setOf n st) ≤ cellCapacity t (B .mesh .w)
-  room = rw (← (B .counted)) (B .room)
-
   pub listed-few : size ≤ 4096
   listed-few = omega (arith, B .listed .counted, count-le n (inside st), B .mesh .mesh .cells≤, R .cells≤)
 
@@ -59,7 +55,7 @@ module _ {t : Tables} {np n : ℕ} {p : Position} {st li : List ℕ} {size : ℕ
 
   pub done-none : Starred t n p np (setOf n st) (doneBy t p (setOf n st) li 0) (t .corners) (t .neighbours)
   unfolding doneBy anyBelow
-  done-none = subst (λ D. Starred t n p np s D (t .corners) (t .neighbours)) (λ ι g. none-yet g ι) (star-none (B .mesh .mesh) R p np st room)
+  done-none = subst (λ D. Starred t n p np s D (t .corners) (t .neighbours)) (λ ι g. none-yet g ι) (star-none (B .mesh .mesh) R p np st (B .ready .room))
     where
       none-yet : (g : ℕ) → false ≡ (visible t p s g && false)
       none-yet g = sym (fails (visible t p s g && false) (λ e. clash (and-right (visible t p s g) false e) refl))
@@ -73,16 +69,11 @@ module _ {t : Tables} {np n : ℕ} {p : Position} {st li : List ℕ} {size : ℕ
       states = B .listed .states;
       corners-long = S .corners-long;
       neighbours-long = S .neighbours-long;
-      corners-same = λ c i h k. cavity-corners (B .mesh .mesh) R p np st room (doneBy t p s li _) (done-visible _) S c i h k;
-      neighbours-same = λ c i h k. cavity-neighbours (B .mesh .mesh) R p np st room (doneBy t p s li _) (done-visible _) S c i h k;
+      corners-same = λ c i h k. cavity-corners (B .mesh .mesh) R p np st (B .ready .room) (doneBy t p s li _) (done-visible _) S c i h k;
+      neighbours-same = λ c i h k. cavity-neighbours (B .mesh .mesh) R p np st (B .ready .room) (doneBy t p s li _) (done-visible _) S c i h k;
     };
     p = p;
-    like = B .like;
-    inspected = B .inspected;
-    numbered = B .numbered;
-    codes = B .codes;
-    numbers = B .numbers;
-    room = room;
+    ready = B .ready;
   }
 
   done-more : (i g : ℕ) → doneBy t p s li i g ≡ true → doneBy t p s li (i + 1) g ≡ true
@@ -120,7 +111,7 @@ module _ {t : Tables} {np n : ℕ} {p : Position} {st li : List ℕ} {size : ℕ
   unfolding doneBy
   star-next i i< {cs} {ns} {cs′} {ns′} (starred v F) S =
       subst (λ D. Starred t n p np s D cs′ ns′) (λ ι g. more g ι)
-      (star-more (B .mesh .mesh) R p np st room (doneBy t p s li i) (done-visible i) (faceAt li i) v (fresh i i<) S F)
+      (star-more (B .mesh .mesh) R p np st (B .ready .room) (doneBy t p s li i) (done-visible i) (faceAt li i) v (fresh i i<) S F)
     where
       more : (g : ℕ) → (doneBy t p s li i g || eqb g (faceAt li i)) ≡ doneBy t p s li (i + 1) g
       more g = bool-ext (doneBy t p s li i g || eqb g (faceAt li i)) (doneBy t p s li (i + 1) g) forth back

@@ -1,13 +1,12 @@
 -- Cells moved down in order: each is read before anything is written over it.
 use Prim.Native.Nat.{ℕ, _+_, _*_, _-_, _≤_, _<_}
-use mathlib.Core.Bool.{Bool, true, false, cond}
+use mathlib.Core.Bool.{true, false, cond}
 use mathlib.Core.List.{List}
 use mathlib.Core.Logic.{_≢_, _⊎_, inl, inr}
 use mathlib.Core.Path.{_≡_, refl, sym, ap, _∙_, subst}
 use native.Mathlib.Omega.{arith}
 use native.Mathlib.Decide.{ℕ-discrete}
 use borrow.Author.Tests.{eq-eqb, ne-eqb, lt-ltb, le-ltb}
-use lib.Dec.{eqb, ltb}
 use lib.ListN.{length, getD, set, length-set}
 use lib.Seq.{getD-set-same, getD-set-other}
 use Rattle.arith.proofs.Flags.{split, clash, below-four}
@@ -17,7 +16,6 @@ use Rattle.mesh.proofs.FaceNumbers.{face-cell}
 use Rattle.mesh.proofs.Loops.{length-four}
 use Rattle.mesh.proofs.Numbers.{four-entry}
 use Rattle.star.specs.Inner.{entryAt, stays, packNumber, renumbered, renumberedFour, Packing, Moved, Zeroed}
-use Rattle.star.proofs.Codes.{filled-more}
 use Rattle.star.proofs.Fours.{four-same, four-other}
 
 -- ---- zeros

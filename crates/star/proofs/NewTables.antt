@@ -1,13 +1,12 @@
 -- The starred tables can be packed, and packed they are the new tables.
 use Prim.Native.Nat.{ℕ, _+_, _*_, _-_, _≤_, _<_}
-use mathlib.Core.Bool.{Bool, true, false, not, _||_, cond}
+use mathlib.Core.Bool.{Bool, true, false, not}
 use mathlib.Core.List.{List}
 use mathlib.Core.Logic.{_≢_, _⊎_, inl, inr}
 use mathlib.Core.Path.{_≡_, refl, sym, ap, _∙_, subst}
 use native.Mathlib.Omega.{arith}
 use native.Mathlib.Decide.{ℕ-discrete, decLt}
 use borrow.Author.Tests.{eq-eqb, ne-eqb, le-leb, lt-leb, not-true}
-use lib.Dec.{eqb, leb}
 use lib.ListN.{length, getD}
 use Rattle.arith.specs.Table.{countBelow, selectBelow, tabulate}
 use Rattle.arith.proofs.Counting.{count-cong, count-lt, count-not, select-picks, Picked}
@@ -16,16 +15,13 @@ use Rattle.geometry.specs.declared.Position.{Position}
 use Rattle.mesh.specs.Tables.{Tables, pointCapacity, cellCapacity, none, cellOf, opposite, corner, across, mate}
 use Rattle.mesh.specs.Mesh.{IsMesh}
 use Rattle.mesh.proofs.Room.{Room, room-of}
-use Rattle.mesh.proofs.Glued.{Glued}
 use Rattle.mesh.proofs.Faces.{few, glued, mated}
 use Rattle.mesh.proofs.FaceNumbers.{face-cell, face-eq, opposite<}
 use Rattle.cavity.specs.Cavity.{inSet, outer, coplanar, visible}
 use Rattle.cavity.specs.Inner.{inside, setOf}
 use Rattle.cavity.proofs.Tests.{visible-of, outer-of}
-use Rattle.star.specs.Turn.{State, inFace, outFace, turn}
 use Rattle.star.specs.Star.{turnFace, kept?, keptCount, madeCount, newCount, keptCells, madeFaces, keptNumber, madeNumber, oldAcross, starAcross, madeCorner, madeAcross, entry, newCorners, newNeighbours}
 use Rattle.star.specs.Inner.{slotOf, numberOf, entryAt, starSlot, slotAcross, Starred, Replacing, stays, packNumber, renumbered, Packing, Zeroed, Packed}
-use Rattle.star.proofs.Cross.{Valid}
 use Rattle.star.proofs.Turn.{turn-ends}
 use Rattle.star.proofs.Star.{table-is, kept-new<, kept<, made<}
 use Rattle.star.proofs.NewFaces.{mate-visible, visible-not-coplanar}
@@ -53,6 +49,9 @@ module _ {t : Tables} {np n : ℕ} {p : Position} {st li : List ℕ} {size : ℕ
 
   -- ---- counts
 
+  room : n + made ≤ cellCapacity t (B .mesh .w)
+  room = omega (arith, B .counted, B .ready .room)
+
   dropped : keptCount n s + size ≡ n
   unfolding keptCount
   dropped =
@@ -73,7 +72,7 @@ module _ {t : Tables} {np n : ℕ} {p : Position} {st li : List ℕ} {size : ℕ
 
   kept-is : (c : ℕ) → c < n → kept? s c ≡ true → N c ≡ keptNumber s c
   unfolding numberOf
-  kept-is c h k = pack-old n size nu c h ∙ (B .numbered c h ∙ rw (not-true (inSet s c) k))
+  kept-is c h k = pack-old n size nu c h ∙ (B .ready .numbered c h ∙ rw (not-true (inSet s c) k))
 
   made-is : (f : ℕ) → N (slotOf t n p s f) ≡ madeNumber t n p s f
   unfolding slotOf madeNumber
@@ -110,7 +109,7 @@ module _ {t : Tables} {np n : ℕ} {p : Position} {st li : List ℕ} {size : ℕ
 
   right-cell : {e r : ℕ} → e < n + made → N e ≡ r → Right e r
   unfolding renumbered
-  right-cell {e} h y = record { names = λ d. h; is = rw (ne-eqb e none (omega (arith, B .room, R .cells≤))) y }
+  right-cell {e} h y = record { names = λ d. h; is = rw (ne-eqb e none (omega (arith, room, R .cells≤))) y }
 
   right-kept : {e r : ℕ} (u : ℕ) → u < n → inSet s u ≡ false → e ≡ u → r ≡ keptNumber s u → Right e r
   right-kept u h k x y = right-cell (omega arith) (ap N x ∙ (kept-is u h (ap not k) ∙ sym y))
@@ -135,7 +134,7 @@ module _ {t : Tables} {np n : ℕ} {p : Position} {st li : List ℕ} {size : ℕ
         go : Dec (across t q ≡ none) → (inSet s (across t q) ≡ true) ⊎ (inSet s (across t q) ≡ false) → Right (entryAt ns c i) (oldAcross t n p s (4 * c + i))
         go (yes e) b = right-none (S .unnamed q q< (λ r. absurd (r e)) ∙ e) (rw (eq-eqb (across t (4 * c + i)) none e))
         go (no r) (inl b) =
-            let v : seen (mate t q) ≡ true = mate-visible M R (B .like) q q< r out b in
+            let v : seen (mate t q) ≡ true = mate-visible M R (B .ready .like) q q< r out b in
             right-made (mate t q) v (S .named q q< r v) (rw (ne-eqb (across t (4 * c + i)) none r, b))
         go (no r) (inr b) =
             right-kept (across t q) (M .across< q q< r) b (S .unnamed q q< (λ r. free r)) (rw (ne-eqb (across t (4 * c + i)) none r, b))
@@ -167,7 +166,7 @@ module _ {t : Tables} {np n : ℕ} {p : Position} {st li : List ℕ} {size : ℕ
 
     turned-right : (g : ℕ) → outer (across t) (inSet s) g ≡ true → Right (starSlot t n p s g) (starAcross t n p s g)
     unfolding starSlot starAcross
-    turned-right g o = go (B .like .faces g (omega (arith, set-below n st (cellOf g) (outer-of t s g o .held))) o)
+    turned-right g o = go (B .ready .like .faces g (omega (arith, set-below n st (cellOf g) (outer-of t s g o .held))) o)
       where
         go : (seen g ≡ true) ⊎ (coplanar t p g ≡ true) → Right (starSlot t n p s g) (starAcross t n p s g)
         go (inl w) = right-made g w (rw (visible-not-coplanar t p s g w)) (rw (visible-not-coplanar t p s g w))
@@ -186,9 +185,9 @@ module _ {t : Tables} {np n : ℕ} {p : Position} {st li : List ℕ} {size : ℕ
     pub packing : Packing n (n + made) st (packNumber n size nu) cs ns
     packing = record {
       states = B .listed .states;
-      few = omega (arith, B .room, R .cells≤);
-      corners-fit = omega (arith, B .room, R .corners-fit, S .corners-long);
-      neighbours-fit = omega (arith, B .room, R .neighbours-fit, S .neighbours-long);
+      few = omega (arith, room, R .cells≤);
+      corners-fit = omega (arith, room, R .corners-fit, S .corners-long);
+      neighbours-fit = omega (arith, room, R .neighbours-fit, S .neighbours-long);
       down = λ c h k. down c k (decLt c n);
       rises = λ d c l h k j. rises d c l k j (decLt d n) (decLt c n);
       names = λ c i h k j. names c i h k j (decLt c n);

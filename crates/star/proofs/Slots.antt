@@ -1,20 +1,19 @@
 -- The slots of new cells, and what the new cells hold, as the code finds them.
 use Prim.Native.Nat.{ℕ, _+_, _*_, _≤_, _<_}
-use mathlib.Core.Bool.{Bool, true, false, cond}
+use mathlib.Core.Bool.{Bool, true, false}
 use mathlib.Core.List.{List}
 use mathlib.Core.Logic.{_≢_, _⊎_, inl, inr}
-use mathlib.Core.Path.{_≡_, refl, sym, ap, ap₂, _∙_, subst}
+use mathlib.Core.Path.{_≡_, refl, sym, ap, _∙_, subst}
 use native.Mathlib.Omega.{arith}
 use native.Mathlib.Decide.{ℕ-discrete}
 use borrow.Author.Tests.{eq-eqb, ne-eqb}
-use lib.Dec.{eqb}
-use lib.ListN.{length, getD, set}
+use lib.ListN.{getD, set}
 use lib.Seq.{getD-set-same, getD-set-other}
 use Rattle.arith.specs.Table.{countBelow}
 use Rattle.arith.proofs.Counting.{count-le, count-mono, count-lt}
 use Rattle.arith.proofs.Flags.{split, clash}
 use Rattle.geometry.specs.declared.Position.{Position}
-use Rattle.mesh.specs.Tables.{Tables, none, cellOf, opposite, corner, across, mate}
+use Rattle.mesh.specs.Tables.{Tables, none, cellOf, corner, across, mate}
 use Rattle.mesh.specs.declared.Cell.{Cell}
 use Rattle.mesh.specs.Inner.{fourAt, withFour, HasCell}
 use Rattle.mesh.proofs.FaceNumbers.{face-cell, face-opposite}
@@ -30,7 +29,7 @@ use Rattle.star.proofs.Cross.{Valid}
 use Rattle.star.proofs.Turn.{turn-valid, turn-ends}
 use Rattle.star.proofs.NewFaces.{visible-not-coplanar}
 use Rattle.star.proofs.Codes.{set-at, code-bit, count-cell}
-use Rattle.star.proofs.Around.{set-below, standing-few, standing-room, standing-glued, has-neighbours, turn-face}
+use Rattle.star.proofs.Around.{set-below, standing-room, standing-glued, has-neighbours, turn-face}
 
 pub visible< : (t : Tables) (n : ℕ) (p : Position) (st : List ℕ) (f : ℕ) → visible t p (setOf n st) f ≡ true → f < 4 * n
 visible< t n p st f v = omega (arith, set-below n st (cellOf f) (visible-of t p (setOf n st) f v .held))
@@ -54,18 +53,18 @@ module _ {n : ℕ} {st fa nu cs ns : List ℕ} (b : Building n st fa nu cs ns) w
     c< = set-below n st c held
 
     code-is : getD fa c 0 ≡ facesCode t p s c
-    code-is = b .inspected c c< (sym (set-at n st c c<) ∙ held)
+    code-is = b .ready .inspected c c< (sym (set-at n st c c<) ∙ held)
 
     pub bit-visible : marked (getD fa c 0) k ≡ visible (b .standing .was) (b .p) (setOf n st) (4 * c + k)
     bit-visible = ap (λ x. marked x k) code-is ∙ code-bit t p s c k k<
 
     first-is : getD nu c 0 ≡ slotOf t n p s (4 * c)
     unfolding numberOf
-    first-is = b .numbered c c< ∙ rw held
+    first-is = b .ready .numbered c c< ∙ rw held
 
     pub number≤ : getD nu c 0 ≤ 4096
     unfolding slotOf madeCount
-    number≤ = omega (arith, first-is, count-mono (4 * c) (4 * n) (visible t p s) (omega (arith, c<)), b .room, standing-room (b .standing) .cells≤)
+    number≤ = omega (arith, first-is, count-mono (4 * c) (4 * n) (visible t p s) (omega (arith, c<)), b .ready .room, standing-room (b .standing) .cells≤)
 
     pub number-slot : getD nu c 0 + countBelow k (marked (getD fa c 0)) ≡ slotOf (b .standing .was) n (b .p) (setOf n st) (4 * c + k)
     unfolding slotOf
@@ -75,7 +74,7 @@ module _ {n : ℕ} {st fa nu cs ns : List ℕ} (b : Building n st fa nu cs ns) w
     pub number-star : outer (across (b .standing .was)) (inSet (setOf n st)) (4 * c + k) ≡ true →
         numberAt fa nu c k ≡ starSlot (b .standing .was) n (b .p) (setOf n st) (4 * c + k)
     unfolding numberAt starSlot
-    number-star o = go (b .like .faces (4 * c + k) (omega (arith, c<)) o)
+    number-star o = go (b .ready .like .faces (4 * c + k) (omega (arith, c<)) o)
       where
         go : (visible t p s (4 * c + k) ≡ true) ⊎ (coplanar t p (4 * c + k) ≡ true) → numberAt fa nu c k ≡ starSlot t n p s (4 * c + k)
         go (inl v) = rw (bit-visible ∙ v, visible-not-coplanar t p s (4 * c + k) v) number-slot
@@ -184,13 +183,13 @@ module _ {n : ℕ} {st fa nu cs ns : List ℕ} (b : Building n st fa nu cs ns) w
 
     module _ (d : ℕ) (e : d ≡ slotOf (b .standing .was) n (b .p) (setOf n st) (4 * c + k)) where
       few : d < 4096
-      few = omega (arith, d<, b .room, standing-room (b .standing) .cells≤)
+      few = omega (arith, d<, b .ready .room, standing-room (b .standing) .cells≤)
 
       pub slot-corners : HasCell d cs
-      slot-corners = record { few = few; fits = omega (arith, d<, b .room, standing-room (b .standing) .corners-fit, b .standing .corners-long) }
+      slot-corners = record { few = few; fits = omega (arith, d<, b .ready .room, standing-room (b .standing) .corners-fit, b .standing .corners-long) }
 
       pub slot-neighbours : HasCell d ns
-      slot-neighbours = record { few = few; fits = omega (arith, d<, b .room, standing-room (b .standing) .neighbours-fit, b .standing .neighbours-long) }
+      slot-neighbours = record { few = few; fits = omega (arith, d<, b .ready .room, standing-room (b .standing) .neighbours-fit, b .standing .neighbours-long) }
 
     module _ (v : ℕ) (cell : Cell) (N : NewCell (b .standing .was) n (b .p) v (setOf n st) (4 * c + k) cell) where
       far-is : getD (cell .neighbours) k 0 ≡ across t f

@@ -69,16 +69,20 @@ starSlot t n p s g = cond (coplanar t p g) none (slotOf t n p s g)
 unfoldable pub slotAcross : Tables → ℕ → Position → List Bool → ℕ → ℕ → ℕ
 slotAcross t n p s f j = cond (eqb j (opposite f)) (across t f) (starSlot t n p s (turnFace t n s f j))
 
--- the mesh `was`, with the cavity of p inspected, its cells numbered, and room for the new cells
+-- the cavity of p is inspected, the cells are numbered, and there is room for the new ones
+pub record Ready (t : Tables) (n : ℕ) (p : Position) (st fa nu : List ℕ) (capacity : ℕ) : Type 0 where
+  pub like : Starlike t n p (setOf n st)
+  pub inspected : Inspected t n p (setOf n st) st fa
+  pub numbered : Numbered t n p (setOf n st) nu
+  pub codes : length fa ≡ 4096
+  pub numbers : length nu ≡ 4096
+  pub room : n + madeCount t n p (setOf n st) ≤ capacity
+
+-- the same of the mesh `was`, while the star is built
 pub record Building (n : ℕ) (st fa nu cs ns : List ℕ) : Type 0 where
   pub standing : Standing n st cs ns
   pub p : Position
-  pub like : Starlike (standing .was) n p (setOf n st)
-  pub inspected : Inspected (standing .was) n p (setOf n st) st fa
-  pub numbered : Numbered (standing .was) n p (setOf n st) nu
-  pub codes : length fa ≡ 4096
-  pub numbers : length nu ≡ 4096
-  pub room : n + madeCount (standing .was) n p (setOf n st) ≤ cellCapacity (standing .was) (standing .mesh .w)
+  pub ready : Ready (standing .was) n p st fa nu (cellCapacity (standing .was) (standing .mesh .w))
 
 -- face k of the cavity's cell c is visible
 pub record Facing (n : ℕ) (st fa : List ℕ) (c k : ℕ) : Type 0 where
@@ -121,14 +125,9 @@ pub record Starred (t : Tables) (n : ℕ) (p : Position) (v : ℕ) (s : List Boo
 -- all that is asked of a cavity that is to be replaced
 pub record Replacing (t : Tables) (np n : ℕ) (p : Position) (st li : List ℕ) (size : ℕ) (fa nu : List ℕ) (made : ℕ) : Type 0 where
   pub mesh : MeshOf t np n
-  pub like : Starlike t n p (setOf n st)
+  pub ready : Ready t n p st fa nu (cellCapacity t (mesh .w))
   pub listed : Listed n st li size
-  pub inspected : Inspected t n p (setOf n st) st fa
-  pub numbered : Numbered t n p (setOf n st) nu
-  pub codes : length fa ≡ 4096
-  pub numbers : length nu ≡ 4096
   pub counted : made ≡ madeCount t n p (setOf n st)
-  pub room : n + made ≤ cellCapacity t (mesh .w)
   pub next : np < pointCapacity t
 
 -- ---- packing

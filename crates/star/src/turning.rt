@@ -2,7 +2,7 @@ ghost use mathlib.Core.Bool.{true};
 ghost use mathlib.Core.Logic.{_≢_};
 ghost use mathlib.Core.Path.{_≡_};
 ghost use Prim.Native.Nat.{_+_, _*_, _<_};
-ghost use lib.ListN.{length, getD};
+ghost use lib.ListN.{length};
 ghost use Rattle.mesh.specs.Tables.{none, corner, across, mate, placeOf};
 ghost use Rattle.mesh.specs.Inner.{HasCell};
 ghost use Rattle.cavity.specs.Cavity.{inSet};

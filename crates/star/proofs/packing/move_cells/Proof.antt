@@ -2,7 +2,6 @@ use Prim.Native.Nat.{_-_, _≤_}
 use native.Mathlib.Omega.{arith}
 use mathlib.Core.Path.{_≡_, subst}
 use lib.ListN.{getD}
-use borrow.Author.Needs.{needs}
 use Rattle.star.specs.Inner.{Moved}
 use Rattle.star.proofs.Moves.{moved-none, movable-corners, movable-neighbours, movable-names, moved-more}
 use Rattle.star.proofs.packing.move_cells.Statement.{statement}

@@ -2,7 +2,6 @@ use Prim.Native.Nat.{ℕ, _+_, _-_, _≤_, _<_}
 use native.Mathlib.Omega.{arith}
 use mathlib.Core.Path.{_≡_, refl, sym, _∙_}
 use lib.ListN.{length, getD, length-set}
-use borrow.Author.Needs.{needs}
 use Rattle.star.specs.Inner.{packNumber}
 use Rattle.star.proofs.Codes.{filled-more}
 use Rattle.star.proofs.Moves.{pack-old, pack-new}

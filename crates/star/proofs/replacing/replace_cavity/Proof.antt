@@ -1,4 +1,3 @@
-use native.Mathlib.Omega.{arith}
 use borrow.Author.Needs.{needs}
 use Rattle.star.proofs.NewTables.{size≤, packing, corners-packed, neighbours-packed}
 use Rattle.star.proofs.replacing.replace_cavity.Statement.{statement}
@@ -8,7 +7,7 @@ star-faces-requires : tie.Need-star-faces-requires
 star-faces-requires c κs = search needs
 
 pack-requires : tie.Need-pack-requires
-pack-requires c κs = let B = c .before .before .before .before .before .before .before .before .before .before .before .before .before .before .before .before .before .before .pre in (packing B (c .before .before .before .before .before .before .before .star-faces .ensures), B .numbers, size≤ B)
+pack-requires c κs = let B = c .before .before .before .before .before .before .before .before .before .before .before .before .before .before .before .before .before .before .pre in (packing B (c .before .before .before .before .before .before .before .star-faces .ensures), B .ready .numbers, size≤ B)
 
 same-length : tie.Need-same-length
 same-length c = search needs

@@ -1,4 +1,4 @@
-use mathlib.Core.Path.{sym, ap, _∙_}
+use mathlib.Core.Path.{ap, _∙_}
 use lib.ListN.{getD, set}
 use borrow.Author.Needs.{needs}
 use Rattle.star.proofs.Around.{has-corners, set-below}

@@ -1,10 +1,9 @@
 use native.Mathlib.Omega.{arith}
-use Prim.Native.Nat.{ℕ, _+_, _*_, _<_}
-use mathlib.Core.Path.{_≡_, sym, ap, _∙_, subst}
+use mathlib.Core.Path.{_∙_}
 use borrow.Author.Needs.{needs}
 use Rattle.star.specs.Inner.{stateOf}
 use Rattle.star.proofs.Around.{has-neighbours, set-below, standing-few}
-use Rattle.star.proofs.Slots.{own-across, Reached, reached, number≤}
+use Rattle.star.proofs.Slots.{own-across, reached, number≤}
 use Rattle.star.proofs.starring.new_neighbour.Statement.{statement}
 use Rattle.star.proofs.starring.new_neighbour.Tie as tie
 
@@ -27,7 +26,7 @@ new-number-requires c κs =
     let g = reached (p .0) _ _ _ (p .1) (p .2) (c .before .if1 .left) (stateOf (c .turn .result)) (c .turn .ensures (p .0 .standing)) in
     let g< = set-below _ _ _ (g .held) in
     let few = standing-few (p .0 .standing) in
-    (omega (arith, g<, few, p .0 .codes), omega (arith, g<, few, p .0 .numbers), g .exit<, number≤ (p .0) _ _ (g .held) (g .exit<))
+    (omega (arith, g<, few, p .0 .ready .codes), omega (arith, g<, few, p .0 .ready .numbers), g .exit<, number≤ (p .0) _ _ (g .held) (g .exit<))
 
 returns-2 : tie.Need-returns-2
 returns-2 c b =

@@ -1,9 +1,5 @@
-use Prim.Native.Nat.{ℕ, _+_, _*_}
-use mathlib.Core.Path.{_≡_}
-use lib.ListN.{getD}
 use borrow.Author.Needs.{needs}
 use Rattle.arith.proofs.Flags.{below-four}
-use Rattle.star.specs.Inner.{slotAcross}
 use Rattle.star.proofs.starring.new_neighbours.Statement.{statement}
 use Rattle.star.proofs.starring.new_neighbours.Tie as tie
 

@@ -1,31 +1,35 @@
 use native.Mathlib.Omega.{arith}
-use mathlib.Core.Path.{_≡_, refl, sym, ap, _∙_, subst}
+use mathlib.Core.Path.{_≡_, refl, sym, _∙_}
 use borrow.Author.Needs.{needs}
 use Prim.Native.Nat.{_+_, _*_}
-use Rattle.mesh.specs.Inner.{withFour, HasCell}
 use Rattle.cavity.specs.Inner.{setOf}
-use Rattle.star.specs.Inner.{passed-by, Building, Facing, slotOf, nameBack}
+use Rattle.star.specs.Inner.{passed-by, Building, Facing, slotOf}
 use Rattle.star.proofs.Around.{set-below, standing-few}
 use Rattle.star.proofs.Slots.{number≤, number-none, number-some, number-marked, slot-corners, slot-neighbours, far-has, face-starred}
 use Rattle.star.proofs.starring.star_face.Statement.{statement}
 use Rattle.star.proofs.starring.star_face.Tie as tie
 
-seen : (c : tie.Else1) → let a = c .before .before .before .before .before .before .before .args in Facing (a .n) (a .state .now) (a .faces .now) (a .c) (a .k)
-seen c = let p = c .before .before .before .before .before .before .before .pre in number-some (p .0) _ _ (p .1) (p .2) (λ e. c .if1 .left (c .before .new-number .ensures ∙ e))
+abbrev start : tie.Else1 → tie.Start
+start c = c .before .before .before .before .before .before .before
 
-slot : (c : tie.Else1) → let a = c .before .before .before .before .before .before .before .args in (b : Building (a .n) (a .state .now) (a .faces .now) (a .numbers .now) (a .corners .now) (a .neighbours .now)) →
+seen : (c : tie.Else1) → let a = start c .args in Facing (a .n) (a .state .now) (a .faces .now) (a .c) (a .k)
+seen c = let p = start c .pre in number-some (p .0) _ _ (p .1) (p .2) (λ e. c .if1 .left (c .before .new-number .ensures ∙ e))
+
+slot : (c : tie.Else1) → let a = start c .args in (b : Building (a .n) (a .state .now) (a .faces .now) (a .numbers .now) (a .corners .now) (a .neighbours .now)) →
     c .before .new-number .result ≡ slotOf (b .standing .was) (a .n) (b .p) (setOf (a .n) (a .state .now)) (4 * a .c + a .k)
-slot c b = c .before .new-number .ensures ∙ number-marked b _ _ (c .before .before .before .before .before .before .before .pre .1) (c .before .before .before .before .before .before .before .pre .2) (seen c .marks)
+slot c b = c .before .new-number .ensures ∙ number-marked b _ _ (start c .pre .1) (start c .pre .2) (seen c .marks)
 
 new-number-requires : tie.Need-new-number-requires
 new-number-requires c κs =
     let p = c .before .before .before .before .before .pre in
     let c< = set-below _ _ _ (p .1) in
     let few = standing-few (p .0 .standing) in
-    (omega (arith, c<, few, p .0 .codes), omega (arith, c<, few, p .0 .numbers), p .2, number≤ (p .0) _ _ (p .1) (p .2))
+    (omega (arith, c<, few, p .0 .ready .codes), omega (arith, c<, few, p .0 .ready .numbers), p .2, number≤ (p .0) _ _ (p .1) (p .2))
 
 returns : tie.Need-returns
-returns c b = passed-by (number-none b _ _ (c .before .before .before .before .before .before .before .pre .1) (c .before .before .before .before .before .before .before .pre .2) (sym (c .before .new-number .ensures) ∙ c .if1 .taken)) refl refl
+returns c b =
+    let p = c .before .before .before .before .before .before .before .pre in
+    passed-by (number-none b _ _ (p .1) (p .2) (sym (c .before .new-number .ensures) ∙ c .if1 .taken)) refl refl
 
 new-cell-requires : tie.Need-new-cell-requires
 new-cell-requires c κs = let p = c .before .before .before .before .before .before .before .before .before .pre in (p .0, seen (c .before .before), p .3)

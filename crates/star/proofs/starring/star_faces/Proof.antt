@@ -1,8 +1,7 @@
 -- After i turns the first i faces of the listed cells are done.
-use Prim.Native.Nat.{ℕ, _+_, _*_, _-_, _/_, _≤_, _<_}
+use Prim.Native.Nat.{_*_, _-_, _/_, _≤_}
 use native.Mathlib.Omega.{arith}
 use mathlib.Core.Path.{_≡_, refl}
-use borrow.Author.Needs.{needs}
 use Rattle.geometry.specs.declared.Position.{Position}
 use Rattle.mesh.specs.Inner.{tables}
 use Rattle.cavity.specs.Inner.{setOf}

@@ -2,7 +2,6 @@
 use Prim.Native.Nat.{_-_}
 use native.Mathlib.Omega.{arith}
 use mathlib.Core.Path.{_≡_, refl, sym, ap, _∙_, subst}
-use lib.ListN.{length}
 use borrow.Author.Needs.{needs}
 use Rattle.arith.proofs.Flags.{test-failed, test-passed}
 use Rattle.mesh.specs.Tables.{corner, across, mate}

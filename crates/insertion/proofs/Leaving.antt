@@ -1,0 +1,128 @@
+-- The calls' contracts from what their parts leave; a call clears its work area first, and goes on with its length.
+use Prim.Native.Nat.{ℕ, _+_, _-_, _≤_, _<_}
+use mathlib.Core.Bool.{Bool, true, false}
+use mathlib.Core.List.{List}
+use mathlib.Core.Logic.{_≢_}
+use mathlib.Core.Path.{_≡_, refl, sym, ap, _∙_, subst}
+use native.Mathlib.Omega.{arith}
+use lib.Dec.{ltb}
+use lib.ListN.{length, length-replicate}
+use borrow.Author.Tests.{ltb-false}
+use Rattle.geometry.specs.declared.Position.{Position}
+use Rattle.mesh.specs.declared.Mesh.{Mesh}
+use Rattle.mesh.specs.Tables.{Tables, pointCapacity, cellCapacity, cleared}
+use Rattle.mesh.proofs.Room.{room-of}
+use Rattle.mesh.proofs.Checked.{check-mesh}
+use Rattle.mesh.specs.Check.{isMesh}
+use Rattle.meshcheck.specs.Refusal.{meshRefusal}
+use Rattle.meshcheck.proofs.Verdict.{passed}
+use Rattle.cavity.specs.Answers.{Answers, sphere}
+use Rattle.insertion.specs.declared.Inserted.{Inserted}
+use Rattle.insertion.specs.declared.Inserted.the-variants.{Accepted, Refused}
+use Rattle.insertion.specs.declared.Listed.{Listed}
+use Rattle.insertion.specs.declared.Listed.the-variants.{Ended, Refused as AllRefused}
+use Rattle.insertion.specs.declared.Report.{Report}
+use Rattle.insertion.specs.Insertion.{fewerBytes, InsertLeaves}
+use Rattle.insertion.specs.List.{ListLeaves, insertFrom, listedNode, nodeCount}
+use Rattle.insertion.specs.Inner.{NodeLeaves, NodesLeave, stoppedBy}
+use Rattle.insertion.proofs.Refusals.{refused-leaves, node-leaves}
+use Rattle.insertion.proofs.Growing.{accepted-checks, one-point-more}
+use Rattle.insertion.proofs.Steps.{list-goes-on, list-stops, list-ends, list-refused-leaves, list-leaves}
+
+-- with no refusal up to 3 there are enough answer bytes
+pub enough : (m : Mesh) (t : Tables) (w : ℕ) (fewer : Bool) → meshRefusal m t w fewer ≡ 0 → fewer ≡ false
+unfolding meshRefusal
+enough m t w true e = absurd (omega (arith, e))
+enough m t w false e = refl
+
+pub passed-at : (m : Mesh) (t : Tables) (w : ℕ) (fewer : Bool) {k : ℕ} → k ≡ meshRefusal m t w fewer → k ≡ 0 → isMesh m t w ≡ true
+passed-at m t w fewer e z = passed m t w fewer (sym e ∙ z)
+
+pub answered-at : (m : Mesh) (t : Tables) (w : ℕ) (bytes : List ℕ) {k : ℕ} → k ≡ meshRefusal m t w (ltb (length bytes) (m .cells)) → k ≡ 0 → m .cells ≤ length bytes
+answered-at m t w bytes e z = ltb-false (length bytes) (m .cells) (enough m t w (ltb (length bytes) (m .cells)) (sym e ∙ z))
+
+module _ (m : Mesh) (t : Tables) (ws : List ℕ) {ws′ : List ℕ} (c : ws′ ≡ cleared ws) where
+  same-work : length ws′ ≡ length ws
+  same-work = ap length c ∙ length-replicate (length ws) 0
+
+  module _ (p : Position) (a : Answers) where
+    pub refused-at : {k : ℕ} → k ≡ meshRefusal m t (length ws′) (fewerBytes a (m .cells)) → k ≢ 0 → InsertLeaves m t ws p a (Refused k) t ws′
+    refused-at e d = refused-leaves m t ws ws′ p a c (e ∙ ap (λ w. meshRefusal m t w (fewerBytes a (m .cells))) same-work) d
+
+    pub node-at : {k : ℕ} {r : Inserted} {t′ : Tables} → k ≡ meshRefusal m t (length ws′) (fewerBytes a (m .cells)) → k ≡ 0 →
+        NodeLeaves m t (length ws′) p a r t′ → InsertLeaves m t ws p a r t′ ws′
+    node-at {k} {r} {t′} e z L =
+        let N = subst (λ w. NodeLeaves m t w p a r t′) same-work L in
+        node-leaves m t ws ws′ p a c (sym (e ∙ ap (λ w. meshRefusal m t w (fewerBytes a (m .cells))) same-work) ∙ z) (N .answer) (N .tables)
+
+  module _ (ns : List ℕ) where
+    pub list-refused-at : {k : ℕ} → k ≡ meshRefusal m t (length ws′) false → k ≢ 0 → ListLeaves m t ws ns (AllRefused k) t ws′
+    list-refused-at e d = list-refused-leaves m t ws ws′ ns c (e ∙ ap (λ w. meshRefusal m t w false) same-work) d
+
+    pub list-at : {k : ℕ} {r : Listed} {t′ : Tables} → k ≡ meshRefusal m t (length ws′) false → k ≡ 0 → NodesLeave m t (length ws′) ns r t′ → ListLeaves m t ws ns r t′ ws′
+    list-at {k} {r} {t′} e z L =
+        let N = subst (λ w. NodesLeave m t w ns r t′) same-work L in
+        let q = list-leaves m t ws ws′ ns c {l = insertFrom (nodeCount ns) 0 m t (length ws) ns} (sym (e ∙ ap (λ w. meshRefusal m t w false) same-work) ∙ z) refl in
+        record { answer = N .answer ∙ q .answer; tables = N .tables ∙ q .tables; work = c }
+
+-- ---- the nodes of a list
+
+-- i nodes are in, and the rest will give what the whole list gives
+pub record Inserting (m₀ : Mesh) (t₀ : Tables) (w : ℕ) (ns : List ℕ) (m : Mesh) (t : Tables) (i : ℕ) : Type 0 where
+  pub began : 8 ≤ m₀ .points
+  pub mesh : isMesh m t w ≡ true
+  pub count : m .points ≡ m₀ .points + i
+  pub points-long : length (t .points) ≡ length (t₀ .points)
+  pub corners-long : length (t .corners) ≡ length (t₀ .corners)
+  pub neighbours-long : length (t .neighbours) ≡ length (t₀ .neighbours)
+  pub rest : insertFrom (nodeCount ns - i) i m t w ns ≡ insertFrom (nodeCount ns) 0 m₀ t₀ w ns
+
+counted : (m : Mesh) (t : Tables) (w : ℕ) → isMesh m t w ≡ true → (8 ≤ m .points) × (m .points ≤ 1024)
+counted m t w e =
+    let M = check-mesh (m .x) (m .y) (m .z) (pointCapacity t) (cellCapacity t w) (m .points) (m .cells) t e in
+    (M .points≥, omega (arith, M .points≤, room-of t w .points≤))
+
+pub none-yet : (m : Mesh) (t : Tables) (w : ℕ) (ns : List ℕ) → isMesh m t w ≡ true → Inserting m t w ns m t 0
+none-yet m t w ns e = record {
+  began = counted m t w e .0;
+  mesh = e;
+  count = omega arith;
+  points-long = refl;
+  corners-long = refl;
+  neighbours-long = refl;
+  rest = let q : nodeCount ns - 0 ≡ nodeCount ns = omega arith in ap (λ k. insertFrom k 0 m t w ns) q;
+}
+
+module _ {m₀ : Mesh} {t₀ : Tables} {w : ℕ} {ns : List ℕ} {m : Mesh} {t : Tables} {i : ℕ} (P : Inserting m₀ t₀ w ns m t i) where
+  -- the points of the mesh bound the place
+  pub place< : i < 1024
+  place< = omega (arith, P .began, P .count, counted m t w (P .mesh) .1)
+
+  pub one-more : i < nodeCount ns → {m′ : Mesh} {r : Report} {t′ : Tables} → NodeLeaves m t w (listedNode ns i) sphere (Accepted m′ r) t′ →
+      length (t′ .points) ≡ length (t .points) → length (t′ .corners) ≡ length (t .corners) → length (t′ .neighbours) ≡ length (t .neighbours) →
+      Inserting m₀ t₀ w ns m′ t′ (i + 1)
+  one-more h {m′} {r} {t′} L a b c = record {
+    began = P .began;
+    mesh = accepted-checks m t w (listedNode ns i) sphere (P .mesh) (L .answer) (L .tables);
+    count = omega (arith, one-point-more m t w (listedNode ns i) sphere (L .answer), P .count);
+    points-long = a ∙ P .points-long;
+    corners-long = b ∙ P .corners-long;
+    neighbours-long = c ∙ P .neighbours-long;
+    rest = sym (list-goes-on m t w ns i (nodeCount ns) h (L .answer) (L .tables)) ∙ P .rest;
+  }
+
+  pub stops-here : i < nodeCount ns → {r : Inserted} {e : ℕ} {t′ : Tables} → NodeLeaves m t w (listedNode ns i) sphere r t′ → r ≡ Refused e →
+      {g : Listed} → g ≡ stoppedBy m i r → NodesLeave m₀ t₀ w ns g t′
+  unfolding stoppedBy
+  stops-here h {r} {e} {t′} L q f =
+      let s = sym (P .rest) ∙ list-stops m t w ns i (nodeCount ns) h (sym q ∙ L .answer) (L .tables) in
+      record { answer = f ∙ (ap (stoppedBy m i) q ∙ sym (ap (λ l. l .answer) s)); tables = sym (ap (λ l. l .tables) s) }
+
+  pub ends-here : nodeCount ns ≤ i → NodesLeave m₀ t₀ w ns (Ended m i) t
+  ends-here h =
+      let s = sym (P .rest) ∙ list-ends m t w ns i (nodeCount ns) h in
+      record { answer = sym (ap (λ l. l .answer) s); tables = sym (ap (λ l. l .tables) s) }
+
+-- the node as it was read off the list
+pub node-read : {m : Mesh} {t : Tables} {w : ℕ} {p q : Position} {a : Answers} {r g : Inserted} {t′ : Tables} → p ≡ q → g ≡ r → NodeLeaves m t w p a g t′ → NodeLeaves m t w q a r t′
+node-read {m} {t} {w} {p} {q} {a} {r} {g} {t′} e f L = subst (λ p. NodeLeaves m t w p a r t′) e (subst (λ g. NodeLeaves m t w p a g t′) f L)

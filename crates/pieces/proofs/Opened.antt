@@ -1,0 +1,44 @@
+-- All the definitions that the pieces compute with: `unfolding opened` opens them.
+use Rattle.arith.specs.Table
+use Rattle.geometry.specs.Volume
+use Rattle.geometry.specs.Sphere
+use Rattle.mesh.specs.Tables
+use Rattle.mesh.specs.Check
+use Rattle.mesh.specs.Start
+use Rattle.meshcheck.specs.Refusal
+use Rattle.locate.specs.Locate
+use Rattle.cavity.specs.Answers
+use Rattle.cavity.specs.Cavity
+use Rattle.star.specs.Turn
+use Rattle.star.specs.Star
+use Rattle.insertion.specs.Insertion
+use Rattle.insertion.specs.Calls
+use Rattle.pieces.specs.Piece
+
+unfoldable pub opened : Unit {0}
+unfolding Table.fill Table.tabulate Table.allBelow Table.anyBelow Table.countBelow Table.selectFrom Table.selectBelow
+    Table.firstFrom Table.firstBelow Table.iterate Table.sum
+    Volume.volume6 Volume.volume
+    Sphere.squaredDistance Sphere.sphereT Sphere.judged Sphere.aboveZero
+    lib.Ieee.lt lib.Ieee.add lib.Ieee.mul lib.Ieee.ofInt
+    Tables.pointCapacity Tables.cellCapacity Tables.pointIn Tables.corner Tables.across Tables.cornerAt Tables.cellVolume
+    Tables.side Tables.faceHas Tables.sameFace Tables.mate Tables.placeOf
+    Check.countsOk Check.boxOk Check.usedOk Check.pointsOk Check.cellOk Check.wallOk Check.someWall Check.matedOk
+    Check.faceOk Check.meshCheck
+    Start.short Start.started Start.startPoints Start.startCorners Start.startNeighbours Start.startRefusal
+    Start.startTables
+    Refusal.meshRefusal
+    Locate.holds
+    Answers.cellT Answers.isYes Answers.reportT Answers.leastT
+    Cavity.base Cavity.grown Cavity.cavity Cavity.outer Cavity.coplanar Cavity.visible Cavity.facesGood Cavity.cornersGood
+    Cavity.marked Cavity.pruned Cavity.corrected Cavity.cavityOf Cavity.correctedCavity Cavity.cavitySize
+    Turn.cross Turn.turn
+    Star.turnFace Star.keptCount Star.madeCount Star.newCount Star.keptCells Star.madeFaces Star.keptNumber Star.madeNumber
+    Star.oldAcross Star.starAcross Star.madeCorner Star.madeAcross Star.newCorners Star.newNeighbours Star.newPoints
+    Star.star
+    Insertion.firstCavity Insertion.lastCavity Insertion.cellsMade Insertion.nodeRefusal Insertion.fewerBytes
+    Insertion.insertRefusal Insertion.reportOf Insertion.insertedMesh Insertion.insertedTables Insertion.insertUnless
+    Insertion.insertCall
+    Calls.startBuild Calls.meshOf Calls.insertOutcome Calls.outcome Calls.meshAfter
+    Piece.reached Piece.given Piece.expected Piece.joined Piece.filled
+opened = tt

@@ -1,0 +1,4 @@
+pub mod Piece
+pub mod Marked
+pub mod Wrong
+pub mod Separating

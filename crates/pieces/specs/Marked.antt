@@ -1,0 +1,187 @@
+-- Document 01's marked test pieces: a table of insertions, and a record of them all.
+use Prim.Native.Nat.{ℕ, _+_}
+use mathlib.Core.Bool.{Bool, true, false, not, _||_}
+use mathlib.Core.List.{List, [], _∷_, map}
+use mathlib.Core.Path.{_≡_}
+use lib.IntN.{pos}
+use lib.ListN.{replicate}
+use lib.Ieee.{fin}
+use Rattle.arith.specs.Table.{tabulate, allBelow, countBelow, selectBelow, sum}
+use Rattle.geometry.specs.declared.Position.{Position}
+use Rattle.geometry.specs.declared.Sphere.the-variants.{Inside, Close}
+use Rattle.geometry.specs.Sphere.{squaredDistance, judged}
+use Rattle.mesh.specs.Tables.{Tables, none, cornerAt, cellVolume, side}
+use Rattle.cavity.specs.Answers.{sphere, handed, cellT, isYes}
+use Rattle.cavity.specs.Cavity.{inSet, base, coplanar, cornersGood, cavityOf}
+use Rattle.insertion.specs.declared.Inserted.the-variants.{Accepted, Refused}
+use Rattle.insertion.specs.Calls.{startBuild, by-sphere}
+use Rattle.pieces.specs.Piece.{Piece, at, cell, counts, float, lent, reached, given, expected}
+
+-- '(1,2,3)', 'Inserted: spot 6, made 12, 12 cells.', in tables with so much room
+unfoldable pub inserted : ℕ → Piece
+inserted room =
+    record {
+      room = room;
+      before = [];
+      node = at 1 2 3;
+      answers = sphere;
+      answer = Accepted (counts 9 12) record { point = 8; before = 6; after = 6; made = 12; least = float 640 };
+      nodes = at 1 2 3 ∷ [];
+      cells =
+          cell 8 1 3 7 none 2 10 1 ∷
+          cell 0 1 3 8 0 3 11 none ∷
+          cell 8 3 2 7 none 4 0 3 ∷
+          cell 0 3 2 8 2 5 1 none ∷
+          cell 8 2 6 7 none 6 2 5 ∷
+          cell 0 2 6 8 4 7 3 none ∷
+          cell 8 6 4 7 none 8 4 7 ∷
+          cell 0 6 4 8 6 9 5 none ∷
+          cell 8 4 5 7 none 10 6 9 ∷
+          cell 0 4 5 8 8 11 7 none ∷
+          cell 8 5 1 7 none 0 8 11 ∷
+          cell 0 5 1 8 10 1 9 none ∷ [];
+      zeros = 6;
+    }
+
+-- '(2,2,0): base 0 and 1; two flat faces; 10 cells.'
+unfoldable pub on-wall : Piece
+on-wall =
+    record {
+      room = 18;
+      before = [];
+      node = at 2 2 0;
+      answers = sphere;
+      answer = Accepted (counts 9 10) record { point = 8; before = 6; after = 6; made = 10; least = float 512 };
+      nodes = at 2 2 0 ∷ [];
+      cells =
+          cell 8 1 3 7 none 1 8 none ∷
+          cell 8 3 2 7 none 2 0 none ∷
+          cell 8 2 6 7 none 4 1 3 ∷
+          cell 0 2 6 8 2 5 none none ∷
+          cell 8 6 4 7 none 6 2 5 ∷
+          cell 0 6 4 8 4 7 3 none ∷
+          cell 8 4 5 7 none 8 4 7 ∷
+          cell 0 4 5 8 6 9 5 none ∷
+          cell 8 5 1 7 none 0 6 9 ∷
+          cell 0 5 1 8 8 none 7 none ∷ [];
+      zeros = 6;
+    }
+
+-- '(2,0,0): four flat faces; 8 cells.'
+unfoldable pub on-edge : Piece
+on-edge =
+    record {
+      room = 18;
+      before = [];
+      node = at 2 0 0;
+      answers = sphere;
+      answer = Accepted (counts 9 8) record { point = 8; before = 6; after = 6; made = 8; least = float 256 };
+      nodes = at 2 0 0 ∷ [];
+      cells =
+          cell 8 1 3 7 none 1 7 none ∷
+          cell 8 3 2 7 none 2 0 none ∷
+          cell 8 2 6 7 none 4 1 3 ∷
+          cell 0 2 6 8 2 5 none none ∷
+          cell 8 6 4 7 none 6 2 5 ∷
+          cell 0 6 4 8 4 none 3 none ∷
+          cell 8 4 5 7 none 7 4 none ∷
+          cell 8 5 1 7 none 0 6 none ∷ [];
+      zeros = 6;
+    }
+
+-- a node refused: the started box as it was
+unfoldable pub refused : ℕ → Position → ℕ → Piece
+refused room p e =
+    record {
+      room = room;
+      before = [];
+      node = p;
+      answers = sphere;
+      answer = Refused e;
+      nodes = [];
+      cells =
+          cell 0 1 3 7 none 1 5 none ∷
+          cell 0 3 2 7 none 2 0 none ∷
+          cell 0 2 6 7 none 3 1 none ∷
+          cell 0 6 4 7 none 4 2 none ∷
+          cell 0 4 5 7 none 5 3 none ∷
+          cell 0 5 1 7 none 0 4 none ∷ [];
+      zeros = 0;
+    }
+
+-- 'After (1,2,3), insert (2,2,2)', with every answer a and the spot so large: 'made 6, 16 cells'
+unfoldable pub second : ℕ → ℕ → Piece
+second a spot =
+    record {
+      room = 18;
+      before = by-sphere 54 (at 1 2 3) ∷ [];
+      node = at 2 2 2;
+      answers = handed (replicate 12 a);
+      answer = Accepted (counts 10 16) record { point = 9; before = spot; after = 2; made = 6; least = float 0 };
+      nodes = at 1 2 3 ∷ at 2 2 2 ∷ [];
+      cells =
+          cell 8 3 2 7 none 2 11 1 ∷
+          cell 0 3 2 8 0 3 13 none ∷
+          cell 8 2 6 7 none 4 0 3 ∷
+          cell 0 2 6 8 2 5 1 none ∷
+          cell 8 6 4 7 none 6 2 5 ∷
+          cell 0 6 4 8 4 7 3 none ∷
+          cell 8 4 5 7 none 8 4 7 ∷
+          cell 0 4 5 8 6 9 5 none ∷
+          cell 8 5 1 7 none 12 6 9 ∷
+          cell 0 5 1 8 8 14 7 none ∷
+          cell 9 1 3 7 none 11 12 15 ∷
+          cell 8 9 3 7 10 0 12 13 ∷
+          cell 8 1 9 7 10 11 8 14 ∷
+          cell 0 9 3 8 11 1 14 15 ∷
+          cell 0 1 9 8 12 13 9 15 ∷
+          cell 0 1 3 9 10 13 14 none ∷ [];
+      zeros = 2;
+    }
+
+unfoldable pub marked : List Piece
+marked =
+    inserted 20 ∷ on-wall ∷ on-edge ∷
+    -- '(4,4,4): refused 5. (5,0,0): refused 4.'
+    refused 18 (at 4 4 4) 5 ∷ refused 18 (at 5 0 0) 4 ∷
+    -- '(1,2,3) with capacity 17: refused 8; with 18: accepted.'
+    refused 17 (at 1 2 3) 8 ∷ inserted 18 ∷
+    -- 'With every answer no: the same table.'
+    second 1 12 ∷ second 0 2 ∷ []
+
+-- the started box with the side s
+abbrev box : ℕ → Tables
+box s = startBuild s s s (lent 18) 54 .tables
+
+-- the tables after (1,2,3)
+abbrev next : Tables
+next = reached (second 1 12) .tables
+
+abbrev members : ℕ → List Bool → List ℕ
+members n s = selectBelow n (inSet s)
+
+-- every marked piece
+pub record MarkedPieces : Type 0 where
+  -- 'Started: six-fold volumes are 64 each, sum 384.'
+  pub each-64 : tabulate 6 (cellVolume (box 4)) ≡ replicate 6 (pos 64)
+  pub sum-384 : sum 6 (cellVolume (box 4)) ≡ pos 384
+  -- '(1,2,3): base is cell 3 alone; there v are 16 each, L are 14, 6, 6, 14, T = 640, close, yes.'
+  pub base-inside : members 6 (base (box 4) 6 (at 1 2 3)) ≡ 3 ∷ []
+  pub volumes-inside : tabulate 4 (λ k. side (box 4) (at 1 2 3) (12 + k)) ≡ replicate 4 (pos 16)
+  pub distances-inside : tabulate 4 (λ k. squaredDistance (cornerAt (box 4) 3 k) (at 1 2 3)) ≡ pos 14 ∷ pos 6 ∷ pos 6 ∷ pos 14 ∷ []
+  pub T-inside : judged (cellT (box 4) (at 1 2 3) 3) ≡ Close (float 640)
+  pub yes-inside : isYes sphere (box 4) (at 1 2 3) 3 ≡ true
+  -- '(2,2,0): base 0 and 1; two flat faces'
+  pub base-on-wall : members 6 (base (box 4) 6 (at 2 2 0)) ≡ 0 ∷ 1 ∷ []
+  pub flat-on-wall : countBelow 24 (coplanar (box 4) (at 2 2 0)) ≡ 2
+  -- '(2,0,0): four flat faces'
+  pub flat-on-edge : countBelow 24 (coplanar (box 4) (at 2 0 0)) ≡ 4
+  -- 'After (1,2,3), insert (2,2,2) with every answer yes: all but the base of two have a lost corner'
+  pub base-second : members 12 (base next 12 (at 2 2 2)) ≡ 0 ∷ 1 ∷ []
+  pub lost-second :
+      let spot = cavityOf next 12 (at 2 2 2) (λ c. true) in
+      allBelow 12 (λ c. inSet (base next 12 (at 2 2 2)) c || not (cornersGood next 12 (at 2 2 2) spot c)) ≡ true
+  -- 'Side 131,072 each, P at half: cell 0 gives T = 3 × 2^83, inside.'
+  pub T-half : judged (cellT (box 131072) (at 65536 65536 65536) 0) ≡ Inside (fin false 3 (pos 83))
+  -- and what the insertions of the table answer and leave
+  pub insertions : map given marked ≡ map expected marked
