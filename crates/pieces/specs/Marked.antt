@@ -109,15 +109,15 @@ refused room p e =
       zeros = 0;
     }
 
--- 'After (1,2,3), insert (2,2,2)', with every answer a and the spot so large: 'made 6, 16 cells'
+-- 'After (1,2,3), insert (2,2,2)', with every answer a and the cavity so large: 'made 6, 16 cells'
 unfoldable pub second : ℕ → ℕ → Piece
-second a spot =
+second a size =
     record {
       room = 18;
       before = by-sphere 54 (at 1 2 3) ∷ [];
       node = at 2 2 2;
       answers = handed (replicate 12 a);
-      answer = Accepted (counts 10 16) record { point = 9; before = spot; after = 2; made = 6; least = float 0 };
+      answer = Accepted (counts 10 16) record { point = 9; before = size; after = 2; made = 6; least = float 0 };
       nodes = at 1 2 3 ∷ at 2 2 2 ∷ [];
       cells =
           cell 8 3 2 7 none 2 11 1 ∷
@@ -179,8 +179,8 @@ pub record MarkedPieces : Type 0 where
   -- 'After (1,2,3), insert (2,2,2) with every answer yes: all but the base of two have a lost corner'
   pub base-second : members 12 (base next 12 (at 2 2 2)) ≡ 0 ∷ 1 ∷ []
   pub lost-second :
-      let spot = cavityOf next 12 (at 2 2 2) (λ c. true) in
-      allBelow 12 (λ c. inSet (base next 12 (at 2 2 2)) c || not (cornersGood next 12 (at 2 2 2) spot c)) ≡ true
+      let cavity = cavityOf next 12 (at 2 2 2) (λ c. true) in
+      allBelow 12 (λ c. inSet (base next 12 (at 2 2 2)) c || not (cornersGood next 12 (at 2 2 2) cavity c)) ≡ true
   -- 'Side 131,072 each, P at half: cell 0 gives T = 3 × 2^83, inside.'
   pub T-half : judged (cellT (box 131072) (at 65536 65536 65536) 0) ≡ Inside (fin false 3 (pos 83))
   -- and what the insertions of the table answer and leave

@@ -82,5 +82,5 @@ abbrev pub Differs : Rule → Piece → Type 0
 Differs r h =
     let t = reached h .tables in
     let n = reached h .mesh .cells in
-    let spot = cavityOf t n (h .node) (isYes (h .answers) t (h .node)) in
-    correctedBy r t n (h .node) (base t n (h .node)) spot ≢ lastCavity (reached h .mesh) t (h .node) (h .answers)
+    let cavity = cavityOf t n (h .node) (isYes (h .answers) t (h .node)) in
+    correctedBy r t n (h .node) (base t n (h .node)) cavity ≢ lastCavity (reached h .mesh) t (h .node) (h .answers)
