@@ -147,7 +147,7 @@ wrote m t ws out {n} {ws′} {out′} l = go (ℕ-discrete (writeRefusal m t (le
         let z : _≡_ {A = ℕ} 0 1 = cc in
         absurd (omega arith)
 
-read : (file out : List ℕ) {h : Header} {out′ : List ℕ} → ReadLeaves file out (Nodes h) out′ →
+pub read : (file out : List ℕ) {h : Header} {out′ : List ℕ} → ReadLeaves file out (Nodes h) out′ →
     Accepted file (length out) × (h ≡ header file) × (out′ ≡ over (nodes file) out)
 unfolding readAnswer readOutput
 read file out {h} {out′} l = go (ℕ-discrete (readRefusal file (length out)) 0)
@@ -178,7 +178,7 @@ module _ (file : List ℕ) {room : ℕ} (a : Accepted file room) where
   records-length =
       omega (arith, length-take (distance file) (drop (firstRecord file) file), length-drop (firstRecord file) file, a .within, a .distance-is)
 
-  nodes-read : length (nodes file) ≡ 3 * header file .count
+  pub nodes-read : length (nodes file) ≡ 3 * header file .count
   unfolding nodes
   nodes-read = omega (arith, numbers-length (records file), records-length)
 

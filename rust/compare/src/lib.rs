@@ -8,6 +8,8 @@ pub mod guarded;
 pub mod nodes;
 pub mod run;
 
+#[cfg(feature = "archive")]
+pub use builders::Archive;
 pub use builders::{Builder, Plain, Tuned};
 pub use difference::Difference;
 pub use run::run;

@@ -1,15 +1,18 @@
-//! compare [--seed N] [--calls N] [--fault NAME]
+//! compare [--seed N] [--calls N] [--build NAME] [--fault NAME]
 
 use std::process::ExitCode;
 
 use compare::{run, Builder, Plain, Tuned};
 use plain::Fault;
 
-const USAGE: &str = "usage: compare [--seed N] [--calls N] [--fault NAME]";
+const USAGE: &str = "usage: compare [--seed N] [--calls N] [--build NAME] [--fault NAME]
+Makes so many random calls on the plain build and on the one named, tuned or archive, and stops at the
+first difference: status 1. A fault makes the plain build a wrong one.";
 
 struct Options {
     seed: u64,
     calls: u64,
+    build: Box<dyn Builder>,
     fault: Fault,
 }
 
@@ -17,6 +20,7 @@ fn options() -> Result<Options, String> {
     let mut options = Options {
         seed: 1,
         calls: 10_000,
+        build: Box::new(Tuned),
         fault: Fault::None,
     };
     let mut words = std::env::args().skip(1);
@@ -30,11 +34,23 @@ fn options() -> Result<Options, String> {
         match word.as_str() {
             "--seed" => options.seed = number()?,
             "--calls" => options.calls = number()?,
+            "--build" => options.build = build(&value)?,
             "--fault" => options.fault = fault(&value)?,
             _ => return Err(format!("{word}: unknown")),
         }
     }
     Ok(options)
+}
+
+fn build(name: &str) -> Result<Box<dyn Builder>, String> {
+    match name {
+        "tuned" => Ok(Box::new(Tuned)),
+        #[cfg(feature = "archive")]
+        "archive" => Ok(Box::new(compare::Archive)),
+        #[cfg(not(feature = "archive"))]
+        "archive" => Err("--build archive: compiled without '--features archive'".to_string()),
+        _ => Err(format!("--build {name}: not tuned or archive")),
+    }
 }
 
 fn fault(name: &str) -> Result<Fault, String> {
@@ -44,24 +60,25 @@ fn fault(name: &str) -> Result<Fault, String> {
 }
 
 fn main() -> ExitCode {
-    let Options { seed, calls, fault } = match options() {
+    let Options {
+        seed,
+        calls,
+        build,
+        fault,
+    } = match options() {
         Ok(options) => options,
         Err(message) => {
             eprintln!("{message}\n{USAGE}");
             return ExitCode::from(2);
         }
     };
-    let left = Plain(Fault::None);
-    let right: Box<dyn Builder> = match fault {
-        Fault::None => Box::new(Tuned),
-        fault => Box::new(Plain(fault)),
-    };
-    match run(&left, right.as_ref(), seed, calls) {
-        Ok(()) => {
+    let plain = Plain(fault);
+    match run(&plain, build.as_ref(), seed, calls) {
+        Ok(lists) => {
             println!(
-                "{} and {}: {calls} calls from seed {seed}, no difference",
-                left.name(),
-                right.name()
+                "{} and {}: {lists} lists, {calls} calls from seed {seed}, no difference",
+                plain.name(),
+                build.name()
             );
             ExitCode::SUCCESS
         }

@@ -8,18 +8,20 @@ use crate::difference::{find, Difference};
 use crate::generate::{History, Step};
 use crate::guarded::GuardedTables;
 
-/// Makes so many calls on both builds; the first difference ends it.
+/// Makes so many calls on both builds, and says how many lists they were; the first difference ends it.
 pub fn run(
     left: &dyn Builder,
     right: &dyn Builder,
     seed: u64,
     calls: u64,
-) -> Result<(), Box<Difference>> {
+) -> Result<u64, Box<Difference>> {
     let mut random = Random::new(seed);
     let mut history = History::new(&mut random);
+    let mut lists = 1;
     for number in 0..calls {
         if history.is_over() {
             history = History::new(&mut random);
+            lists += 1;
         }
         let step = history.next(&mut random);
         let tables = GuardedTables::new(&step.tables);
@@ -37,7 +39,7 @@ pub fn run(
         }
         history.take(&step, &l);
     }
-    Ok(())
+    Ok(lists)
 }
 
 fn describe(step: &Step) -> String {

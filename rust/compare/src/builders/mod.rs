@@ -1,9 +1,12 @@
-//! The calls of the C interface as a trait, and the builds that have them. A build over the C archive goes into a module
-//! beside these two, and into `main.rs`.
+//! The calls of the C interface as a trait, and the builds that have them.
 
+#[cfg(feature = "archive")]
+mod archive;
 mod plain;
 mod tuned;
 
+#[cfg(feature = "archive")]
+pub use self::archive::Archive;
 pub use self::plain::Plain;
 pub use self::tuned::Tuned;
 

@@ -1,0 +1,54 @@
+-- What each C call answers and leaves in what it is lent: the calls' own definitions, with the interface's numbers. The tables of a
+-- call that has none here are lent for reading alone.
+use Prim.Native.Nat.{ℕ}
+use mathlib.Core.List.{List}
+use mathlib.Core.Path.{_≡_}
+use lib.ListN.{length}
+use Rattle.geometry.specs.declared.Position.{Position}
+use Rattle.mesh.specs.Tables.{Tables, cleared}
+use Rattle.mesh.specs.Start.{startAnswer, startTables}
+use Rattle.locate.specs.Locate.{locateCall}
+use Rattle.cavity.specs.Answers.{Answers}
+use Rattle.insertion.specs.Insertion.{Result, insertCall}
+use Rattle.insertion.specs.List.{listCall}
+use Rattle.nodefile.specs.Read.{readAnswer, readOutput}
+use Rattle.nodefile.specs.Write.{writeAnswer, writeOutput}
+use Rattle.gantry.specs.declared.GantryMesh.{GantryMesh}
+use Rattle.gantry.specs.declared.GantryStarted.{GantryStarted}
+use Rattle.gantry.specs.declared.GantryInserted.{GantryInserted}
+use Rattle.gantry.specs.declared.GantryListed.{GantryListed}
+use Rattle.gantry.specs.declared.GantryLocated.{GantryLocated}
+use Rattle.gantry.specs.declared.GantryRead.{GantryRead}
+use Rattle.gantry.specs.declared.GantryWritten.{GantryWritten}
+use Rattle.gantry.specs.Numbers.{recordOf, startedOf, insertedOf, listedOf, locatedOf, readOf, writtenOf}
+
+-- tables t and a work area ws are lent, and left as t′ and ws′
+
+pub record Starts (X Y Z : ℕ) (t : Tables) (ws : List ℕ) (r : GantryStarted) (t′ : Tables) (ws′ : List ℕ) : Type 0 where
+  pub answer : r ≡ startedOf (startAnswer X Y Z t (length ws))
+  pub tables : t′ ≡ startTables X Y Z t (length ws)
+  pub work : ws′ ≡ cleared ws
+
+pub record Inserts (m : GantryMesh) (t : Tables) (ws : List ℕ) (p : Position) (a : Answers)
+    (r : GantryInserted) (t′ : Tables) (ws′ : List ℕ) : Type 0 where
+  pub answer : r ≡ insertedOf m (insertCall (recordOf m) t (length ws) p a .answer)
+  pub tables : t′ ≡ insertCall (recordOf m) t (length ws) p a .tables
+  pub work : ws′ ≡ cleared ws
+
+pub record Lists (m : GantryMesh) (t : Tables) (ws ns : List ℕ) (r : GantryListed) (t′ : Tables) (ws′ : List ℕ) : Type 0 where
+  pub answer : r ≡ listedOf m (listCall (recordOf m) t (length ws) ns .answer)
+  pub tables : t′ ≡ listCall (recordOf m) t (length ws) ns .tables
+  pub work : ws′ ≡ cleared ws
+
+pub record Locates (m : GantryMesh) (t : Tables) (ws : List ℕ) (p : Position) (r : GantryLocated) (ws′ : List ℕ) : Type 0 where
+  pub answer : r ≡ locatedOf (locateCall (recordOf m) t (length ws) p)
+  pub work : ws′ ≡ cleared ws
+
+pub record Reads (file out : List ℕ) (r : GantryRead) (out′ : List ℕ) : Type 0 where
+  pub answer : r ≡ readOf (readAnswer file (length out))
+  pub output : out′ ≡ readOutput file out
+
+pub record Writes (m : GantryMesh) (t : Tables) (ws out : List ℕ) (r : GantryWritten) (ws′ out′ : List ℕ) : Type 0 where
+  pub answer : r ≡ writtenOf (writeAnswer (recordOf m) t (length ws) (length out))
+  pub output : out′ ≡ writeOutput (recordOf m) t (length ws) out
+  pub work : ws′ ≡ cleared ws

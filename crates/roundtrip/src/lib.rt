@@ -1,0 +1,1 @@
+// A node file through a mesh and back: laws only.

@@ -1,0 +1,127 @@
+/*
+ * Gantry cells for C and C++: a mesh of tetrahedra over the nodes of a box, in tables that the caller owns.
+ *
+ * Every call ends and answers for all numbers handed in; none allocates, keeps a pointer or a state, or prints. What each one
+ * answers and leaves in every lent entry is proved (crates/gantry/specs). All memory is the caller's and is lent for one call:
+ * a pointer, then the number of entries behind it. A pointer is aligned for its type, and not NULL even where the length is 0; the
+ * areas lent to one call do not overlap, and no other thread touches them meanwhile. This C side has to see to it: nothing can
+ * prove it. A call takes up to 32 KiB of stack.
+ *
+ * Link with libgantry.a alone ('rt staticlib gantry' writes it, for x86-64 Linux); it takes memcpy and memset from the C library.
+ */
+#ifndef GANTRY_H
+#define GANTRY_H
+
+#include <stdbool.h>
+#include <stddef.h>
+#include <stdint.h>
+
+#ifdef __cplusplus
+extern "C" {
+#endif
+
+/*
+ * Refusals. A refused call changes nothing but the work area. Tests are made in number order, but a file's 9 before its 2.
+ */
+#define GANTRY_ACCEPTED 0
+#define GANTRY_SHORT 1       /* point capacity below 8, cell capacity below 6, or fewer answer bytes than cells */
+#define GANTRY_BOX 2         /* a side is 0 or above 131072 */
+#define GANTRY_NO_MESH 3     /* record and tables fail the mesh check */
+#define GANTRY_OUTSIDE 4     /* a position outside the box; in the sphere test, a coordinate above 131072 */
+#define GANTRY_TAKEN 5       /* a point is already there */
+#define GANTRY_POINTS_FULL 6 /* the point count equals the point capacity */
+#define GANTRY_UNHELD 7      /* no cell holds the position */
+#define GANTRY_CELLS_FULL 8  /* old cells and new ones together exceed the cell capacity */
+#define GANTRY_TRAILER 9     /* a file under 20 bytes, or with a wrong count or distance */
+#define GANTRY_NO_PLACE 10   /* the lent output is shorter than what is to be written */
+#define GANTRY_FLAT_CELL 11  /* a sphere test on a cell of volume 0 or less */
+
+#define GANTRY_INSIDE 1
+#define GANTRY_OUTSIDE_SPHERE 2
+#define GANTRY_CLOSE 3
+
+#define GANTRY_NONE 65535                 /* in the neighbour table: no neighbour */
+#define GANTRY_VOLUME_NONE (INT64_C(1) << 62) /* gantry_volume6 with a coordinate outside 0 to 131072 */
+
+/*
+ * The record of a mesh: sides, point count, cell count. The caller keeps it beside the tables, hands it to each call, and goes on
+ * with the one in the answer.
+ */
+typedef struct { uint32_t x, y, z, points, cells; } gantry_mesh;
+
+/*
+ * Answers. refusal is 0 where the call was accepted. In a refusal, mesh is the record as it then stands, and a field without
+ * meaning is 0.
+ */
+typedef struct { uint8_t refusal; gantry_mesh mesh; } gantry_started;                    /* refused: a record of zeros */
+typedef struct { uint8_t refusal; gantry_mesh mesh; uint32_t point, before, after, made; double least; } gantry_inserted;
+typedef struct { uint8_t refusal; gantry_mesh mesh; uint32_t place; } gantry_listed;      /* place: of the refused node, or how many went in */
+typedef struct { uint8_t refusal; uint32_t cell; } gantry_located;
+typedef struct { uint8_t refusal; uint8_t answer; double t; } gantry_sphere;              /* 1 inside, 2 outside, 3 close */
+typedef struct { uint8_t refusal; uint32_t x, y, z, count; } gantry_read;
+typedef struct { uint8_t refusal; uint32_t bytes; } gantry_written;
+
+/*
+ * The lent tables of a mesh.
+ *
+ *   points      3 entries a point: x, y, z. Points 0 to 7 are the corners of the box, the nodes follow in the order they went in.
+ *   corners     4 entries a cell: the point numbers of its corners.
+ *   neighbours  4 entries a cell: neighbour i lies across the face opposite corner i; GANTRY_NONE at a wall.
+ *   work        3 entries a cell, of any content. Every call that is lent one sets all of it to 0, accepted or refused.
+ *
+ * A length is in entries, not in bytes. The lengths over 3, 4, 4 and 3 are the capacities: 8 to 1024 points count, and 6 to 4096
+ * cells (the least of the three); what a table has beyond that is not used. An insertion counts old and new cells together: leave
+ * room for more cells than the mesh ends with. Entries past the mesh's own may hold anything.
+ */
+#define GANTRY_TABLES                       \
+    uint32_t *points, size_t points_len,    \
+    uint16_t *corners, size_t corners_len,  \
+    uint16_t *neighbours, size_t neighbours_len, \
+    uint16_t *work, size_t work_len
+
+/* The mesh of a box: its eight corners and six cells. Refusals 1 2. */
+gantry_started gantry_start(uint32_t x, uint32_t y, uint32_t z, GANTRY_TABLES);
+
+/*
+ * Inserts one node, by the float sphere test. The answer has the node's point number, how many cells its cavity had before and
+ * after correction, how many cells were made, and the least T over the cavity before correction. Cell numbers change: a cell number
+ * from an earlier call is of no use afterwards. Refusals 1 to 8.
+ */
+gantry_inserted gantry_insert(gantry_mesh mesh, GANTRY_TABLES, uint32_t x, uint32_t y, uint32_t z);
+
+/* The same by answers handed in, one byte a cell: nonzero where the node counts as inside the cell's sphere. least is 0.0. */
+gantry_inserted gantry_insert_answers(gantry_mesh mesh, GANTRY_TABLES,
+                                      const uint8_t *answers, size_t answers_len, uint32_t x, uint32_t y, uint32_t z);
+
+/*
+ * Inserts nodes, three numbers each, up to the first that is refused: then place is its place in the list, from 0, and the nodes
+ * before it stay in. Refusals 1 to 3 refuse the whole list, with place 0.
+ */
+gantry_listed gantry_insert_list(gantry_mesh mesh, GANTRY_TABLES, const uint32_t *nodes, size_t nodes_len);
+
+/* The lowest-numbered cell that holds a position, its faces, edges and corners included. Writes the work area alone. Refusals 1 2 3 4 7. */
+gantry_located gantry_locate(gantry_mesh mesh, GANTRY_TABLES, uint32_t x, uint32_t y, uint32_t z);
+
+/* Whether record and tables are a mesh. Writes the work area alone. */
+bool gantry_check(gantry_mesh mesh, GANTRY_TABLES);
+
+/* The sides and nodes of a node file, three numbers a node: at most 3048. Positions are not tested. Refusals 9 2 10. */
+gantry_read gantry_read_nodes(const uint8_t *file, size_t file_len, uint32_t *nodes, size_t nodes_len);
+
+/* The nodes of a mesh as a node file: 12 bytes a node and 20. Writes the work area and out alone. Refusals 1 2 3 10. */
+gantry_written gantry_write_nodes(gantry_mesh mesh, GANTRY_TABLES, uint8_t *out, size_t out_len);
+
+/* Six times the volume of (a, b, c, d), below 0 where they turn the other way; GANTRY_VOLUME_NONE for a number that is no coordinate. */
+int64_t gantry_volume6(int32_t ax, int32_t ay, int32_t az, int32_t bx, int32_t by, int32_t bz,
+                       int32_t cx, int32_t cy, int32_t cz, int32_t dx, int32_t dy, int32_t dz);
+
+/* Where p lies from the sphere through a, b, c, d, with T; close is within 2^39. Refusals 4 11. */
+gantry_sphere gantry_sphere_test(uint32_t ax, uint32_t ay, uint32_t az, uint32_t bx, uint32_t by, uint32_t bz,
+                                 uint32_t cx, uint32_t cy, uint32_t cz, uint32_t dx, uint32_t dy, uint32_t dz,
+                                 uint32_t px, uint32_t py, uint32_t pz);
+
+#ifdef __cplusplus
+}
+#endif
+
+#endif

@@ -1,0 +1,122 @@
+use gantry::raw::{self, Record};
+use plain::{Inserted, Listed, Located, Mesh, Position, Read, Sphere, Started, Tables, Written};
+
+use super::Builder;
+
+/// The proved archive, by its C calls on the lent slices.
+pub struct Archive;
+
+fn record(mesh: Mesh) -> Record {
+    Record {
+        x: mesh.x,
+        y: mesh.y,
+        z: mesh.z,
+        points: mesh.points,
+        cells: mesh.cells,
+    }
+}
+
+fn mesh(record: Record) -> Mesh {
+    Mesh {
+        x: record.x,
+        y: record.y,
+        z: record.z,
+        points: record.points,
+        cells: record.cells,
+    }
+}
+
+fn lent<'a>(tables: &'a mut Tables) -> raw::Tables<'a> {
+    raw::Tables {
+        points: tables.points,
+        corners: tables.corners,
+        neighbours: tables.neighbours,
+        work: tables.work,
+    }
+}
+
+fn inserted(answer: raw::Inserted) -> Inserted {
+    Inserted {
+        refusal: answer.refusal,
+        mesh: mesh(answer.mesh),
+        point: answer.point,
+        before: answer.before,
+        after: answer.after,
+        made: answer.made,
+        least: answer.least,
+    }
+}
+
+impl Builder for Archive {
+    fn name(&self) -> String {
+        "archive".to_string()
+    }
+
+    fn volume6(&self, numbers: [i32; 12]) -> i64 {
+        let position = |k: usize| [0, 1, 2].map(|axis| numbers[3 * k + axis]);
+        raw::volume6([0, 1, 2, 3].map(position))
+    }
+
+    fn sphere_test(&self, corners: [Position; 4], p: Position) -> Sphere {
+        let raw::Sphere { refusal, answer, t } = raw::sphere_test(corners, p);
+        Sphere { refusal, answer, t }
+    }
+
+    fn start(&self, sides: Position, tables: &mut Tables) -> Started {
+        let answer = raw::start(sides, &mut lent(tables));
+        Started {
+            refusal: answer.refusal,
+            mesh: mesh(answer.mesh),
+        }
+    }
+
+    fn insert(&self, mesh: Mesh, tables: &mut Tables, p: Position) -> Inserted {
+        inserted(raw::insert(record(mesh), &mut lent(tables), p))
+    }
+
+    fn insert_answers(
+        &self,
+        mesh: Mesh,
+        tables: &mut Tables,
+        answers: &[u8],
+        p: Position,
+    ) -> Inserted {
+        let tables = &mut lent(tables);
+        inserted(raw::insert_answers(record(mesh), tables, answers, p))
+    }
+
+    fn insert_list(&self, mesh: Mesh, tables: &mut Tables, nodes: &[u32]) -> Listed {
+        let answer = raw::insert_list(record(mesh), &mut lent(tables), nodes);
+        Listed {
+            refusal: answer.refusal,
+            mesh: self::mesh(answer.mesh),
+            place: answer.place,
+        }
+    }
+
+    fn locate(&self, mesh: Mesh, tables: &mut Tables, p: Position) -> Located {
+        let raw::Located { refusal, cell } = raw::locate(record(mesh), &mut lent(tables), p);
+        Located { refusal, cell }
+    }
+
+    fn check(&self, mesh: Mesh, tables: &mut Tables) -> bool {
+        raw::check(record(mesh), &mut lent(tables))
+    }
+
+    fn read_nodes(&self, file: &[u8], nodes: &mut [u32]) -> Read {
+        let answer = raw::read_nodes(file, nodes);
+        Read {
+            refusal: answer.refusal,
+            x: answer.x,
+            y: answer.y,
+            z: answer.z,
+            count: answer.count,
+        }
+    }
+
+    fn write_nodes(&self, mesh: Mesh, tables: &mut Tables, out: &mut [u8]) -> Written {
+        let raw::Written { refusal, bytes } =
+            raw::write_nodes(record(mesh), &mut lent(tables), out);
+        Written { refusal, bytes }
+    }
+}

@@ -1,0 +1,70 @@
+//! Safe bindings over `libgantry.a`, the proved builder of tetrahedra (*cells*) over nodes in a box.
+//!
+//! A [`Mesh`] owns the tables that the archive's calls are lent. Only those calls write them, so a `Mesh` is a mesh after
+//! every list of calls: that is what is proved of the archive. Every call answers for all input; a refusal has the number
+//! and name of the requirements' table ([`Refusal`]) and leaves the mesh as it was.
+//!
+//! Coordinates are whole steps: positions are three unsigned numbers, and a box runs from 0 to its sides, ends included.
+//!
+//! ```
+//! use gantry::{Mesh, Refusal};
+//!
+//! let mut mesh = Mesh::start(4, 4, 4)?;
+//! let report = mesh.insert([1, 2, 3])?;
+//! assert_eq!((report.point, report.made), (8, 12));
+//! assert_eq!(mesh.cells().len(), 12);
+//! assert_eq!(mesh.insert([1, 2, 3]), Err(Refusal::Taken));
+//! assert_eq!(mesh.insert([5, 0, 0]), Err(Refusal::Outside));
+//!
+//! let cell = mesh.locate([2, 2, 2])?;
+//! assert!(mesh.corner_positions(cell).is_some());
+//! assert!(mesh.check());
+//! # Ok::<(), Refusal>(())
+//! ```
+//!
+//! A node file to a mesh, and back:
+//!
+//! ```
+//! use gantry::{read_nodes, Mesh};
+//!
+//! # fn main() -> Result<(), Box<dyn std::error::Error>> {
+//! let mut mesh = Mesh::start(4, 4, 4)?;
+//! mesh.insert_list(&[[1, 2, 3], [2, 2, 0]])?;
+//! let file = mesh.write_nodes()?;
+//!
+//! let read = read_nodes(&file)?;
+//! let [x, y, z] = read.sides;
+//! let mut again = Mesh::start(x, y, z)?;
+//! again.insert_list(&read.nodes)?;
+//! assert!(again.cells().eq(mesh.cells()));
+//! # Ok(())
+//! # }
+//! ```
+//!
+//! # Linking
+//!
+//! The build looks for `libgantry.a` in the directory that `GANTRY_ARCHIVE_DIR` names, else in the repository's
+//! `target/staticlib`, where `rt staticlib gantry` puts it.
+
+mod geometry;
+mod mesh;
+mod nodefile;
+pub mod raw;
+mod refusal;
+
+pub use geometry::{sphere_test, volume6, SphereAnswer};
+pub use mesh::{Cell, Mesh, Report, Room};
+pub use nodefile::{read_nodes, NodeFile};
+pub use refusal::{Refusal, Stopped};
+
+/// Three coordinates.
+pub type Position = [u32; 3];
+
+/// The most points of a mesh, the eight box corners among them.
+pub const POINT_LIMIT: usize = 1_024;
+/// The most cells of a mesh.
+pub const CELL_LIMIT: usize = 4_096;
+/// The most nodes of a node file.
+pub const NODE_LIMIT: usize = POINT_LIMIT - 8;
+/// The longest side of a box.
+pub const SIDE_LIMIT: u32 = 131_072;

@@ -1,0 +1,328 @@
+//! A mesh with the tables that the calls are lent.
+
+use std::fmt;
+
+use crate::refusal::accepted;
+use crate::{raw, Position, Refusal, Stopped, CELL_LIMIT, POINT_LIMIT};
+
+const NO_NEIGHBOUR: u16 = 65_535;
+
+/// How many points and cells a mesh has room for; more than 1,024 and 4,096 count as these.
+///
+/// An insertion needs room for the old cells and the new ones together, before the old ones that it replaces are dropped.
+#[derive(Clone, Copy, Debug, PartialEq, Eq)]
+pub struct Room {
+    /// Points, the eight box corners among them.
+    pub points: usize,
+    /// Cells.
+    pub cells: usize,
+}
+
+impl Room {
+    /// 1,024 points and 4,096 cells.
+    pub const FULL: Room = Room {
+        points: POINT_LIMIT,
+        cells: CELL_LIMIT,
+    };
+}
+
+impl Default for Room {
+    fn default() -> Room {
+        Room::FULL
+    }
+}
+
+/// A cell of a mesh.
+#[derive(Clone, Copy, Debug, PartialEq, Eq)]
+pub struct Cell {
+    /// The four points.
+    pub corners: [usize; 4],
+    /// Across face i, which is opposite corner i; nothing at a wall of the box.
+    pub neighbours: [Option<usize>; 4],
+}
+
+/// What an accepted insertion reports. A *spot* is the cells that the new ones replace.
+#[derive(Clone, Copy, Debug, PartialEq)]
+pub struct Report {
+    /// The new point's number.
+    pub point: usize,
+    /// The spot's size before its correction.
+    pub before: usize,
+    /// The spot's size after it.
+    pub after: usize,
+    /// How many cells were made.
+    pub made: usize,
+    /// The least float sum T of the sphere test over the spot before correction; 0 for answers handed in.
+    pub least: f64,
+}
+
+/// Cells over the nodes of a box, with their tables.
+///
+/// All calls take `&mut self`, [`locate`](Mesh::locate) and [`check`](Mesh::check) too: each is lent the work area.
+#[derive(Clone)]
+pub struct Mesh {
+    record: raw::Record,
+    points: Vec<u32>,
+    corners: Vec<u16>,
+    neighbours: Vec<u16>,
+    work: Vec<u16>,
+}
+
+impl Mesh {
+    /// Six cells in a box of these sides, with full room. Refused with [`Refusal::Box`] for a side that is 0 or above
+    /// 131,072.
+    ///
+    /// ```
+    /// use gantry::{Mesh, Room};
+    ///
+    /// let mesh = Mesh::start(4, 4, 4)?;
+    /// assert_eq!((mesh.points().len(), mesh.cells().len()), (8, 6));
+    /// assert_eq!(mesh.room(), Room::FULL);
+    /// # Ok::<(), gantry::Refusal>(())
+    /// ```
+    pub fn start(x: u32, y: u32, z: u32) -> Result<Mesh, Refusal> {
+        Mesh::start_with_room(x, y, z, Room::FULL)
+    }
+
+    /// The same with other room; refused with [`Refusal::Short`] where it is below 8 points or 6 cells.
+    ///
+    /// ```
+    /// use gantry::{Mesh, Refusal, Room};
+    ///
+    /// let mut mesh = Mesh::start_with_room(4, 4, 4, Room { points: 20, cells: 17 })?;
+    /// assert_eq!(mesh.insert([1, 2, 3]), Err(Refusal::CellsFull));
+    /// let mut mesh = Mesh::start_with_room(4, 4, 4, Room { points: 20, cells: 18 })?;
+    /// assert!(mesh.insert([1, 2, 3]).is_ok());
+    /// # Ok::<(), Refusal>(())
+    /// ```
+    pub fn start_with_room(x: u32, y: u32, z: u32, room: Room) -> Result<Mesh, Refusal> {
+        let points = room.points.min(POINT_LIMIT);
+        let cells = room.cells.min(CELL_LIMIT);
+        let mut mesh = Mesh {
+            record: raw::Record::default(),
+            points: vec![0; 3 * points],
+            corners: vec![0; 4 * cells],
+            neighbours: vec![0; 4 * cells],
+            work: vec![0; 3 * cells],
+        };
+        let started = raw::start([x, y, z], &mut mesh.lend().1);
+        accepted(started.refusal)?;
+        mesh.record = started.mesh;
+        Ok(mesh)
+    }
+
+    fn lend(&mut self) -> (raw::Record, raw::Tables<'_>) {
+        let tables = raw::Tables {
+            points: &mut self.points,
+            corners: &mut self.corners,
+            neighbours: &mut self.neighbours,
+            work: &mut self.work,
+        };
+        (self.record, tables)
+    }
+
+    fn take(&mut self, inserted: raw::Inserted) -> Result<Report, Refusal> {
+        self.record = inserted.mesh;
+        accepted(inserted.refusal)?;
+        Ok(Report {
+            point: inserted.point as usize,
+            before: inserted.before as usize,
+            after: inserted.after as usize,
+            made: inserted.made as usize,
+            least: inserted.least,
+        })
+    }
+
+    /// Inserts one node by the float sphere test. Refused with [`Refusal::Outside`], [`Refusal::Taken`],
+    /// [`Refusal::PointsFull`] or [`Refusal::CellsFull`].
+    ///
+    /// ```
+    /// use gantry::Mesh;
+    ///
+    /// let mut mesh = Mesh::start(4, 4, 4)?;
+    /// let report = mesh.insert([1, 2, 3])?;
+    /// assert_eq!((report.before, report.after, report.made), (6, 6, 12));
+    /// # Ok::<(), gantry::Refusal>(())
+    /// ```
+    pub fn insert(&mut self, p: Position) -> Result<Report, Refusal> {
+        let (record, mut tables) = self.lend();
+        let inserted = raw::insert(record, &mut tables, p);
+        self.take(inserted)
+    }
+
+    /// Inserts one node by answers handed in: a byte a cell, nonzero for a cell that is to be in the spot. Any answers
+    /// leave a mesh. Refused as [`insert`](Mesh::insert) is, and with [`Refusal::Short`] for fewer bytes than cells.
+    ///
+    /// ```
+    /// use gantry::Mesh;
+    ///
+    /// let mut mesh = Mesh::start(4, 4, 4)?;
+    /// mesh.insert([1, 2, 3])?;
+    /// let report = mesh.insert_answers(&[1; 12], [2, 2, 2])?;
+    /// assert_eq!((report.made, mesh.cells().len()), (6, 16));
+    /// # Ok::<(), gantry::Refusal>(())
+    /// ```
+    pub fn insert_answers(&mut self, answers: &[u8], p: Position) -> Result<Report, Refusal> {
+        let (record, mut tables) = self.lend();
+        let inserted = raw::insert_answers(record, &mut tables, answers, p);
+        self.take(inserted)
+    }
+
+    /// Inserts nodes one by one, and says how many went in; stops at the first that is refused.
+    ///
+    /// ```
+    /// use gantry::{Mesh, Refusal, Stopped};
+    ///
+    /// let mut mesh = Mesh::start(4, 4, 4)?;
+    /// assert_eq!(mesh.insert_list(&[[1, 2, 3], [2, 2, 0]]), Ok(2));
+    /// let stopped = mesh.insert_list(&[[2, 2, 2], [1, 2, 3], [3, 3, 3]]).unwrap_err();
+    /// assert_eq!(stopped, Stopped { place: 1, refusal: Refusal::Taken });
+    /// assert_eq!(stopped.to_string(), "stopped at node 1: refused 5 (taken)");
+    /// assert_eq!(mesh.points().len(), 11);
+    /// # Ok::<(), Refusal>(())
+    /// ```
+    pub fn insert_list(&mut self, nodes: &[Position]) -> Result<usize, Stopped> {
+        let (record, mut tables) = self.lend();
+        let listed = raw::insert_list(record, &mut tables, nodes.as_flattened());
+        self.record = listed.mesh;
+        let place = listed.place as usize;
+        match accepted(listed.refusal) {
+            Ok(()) => Ok(place),
+            Err(refusal) => Err(Stopped { place, refusal }),
+        }
+    }
+
+    /// The lowest-numbered cell that holds the position, its faces, edges and corners included. Refused with
+    /// [`Refusal::Outside`].
+    ///
+    /// ```
+    /// use gantry::{Mesh, Refusal};
+    ///
+    /// let mut mesh = Mesh::start(4, 4, 4)?;
+    /// assert_eq!(mesh.locate([1, 2, 3]), Ok(3));
+    /// assert_eq!(mesh.locate([1, 2, 5]), Err(Refusal::Outside));
+    /// # Ok::<(), Refusal>(())
+    /// ```
+    pub fn locate(&mut self, p: Position) -> Result<usize, Refusal> {
+        let (record, mut tables) = self.lend();
+        let located = raw::locate(record, &mut tables, p);
+        accepted(located.refusal)?;
+        Ok(located.cell as usize)
+    }
+
+    /// The mesh check: yes after any calls.
+    ///
+    /// ```
+    /// let mut mesh = gantry::Mesh::start(4, 4, 4)?;
+    /// mesh.insert([2, 0, 0])?;
+    /// assert!(mesh.check());
+    /// # Ok::<(), gantry::Refusal>(())
+    /// ```
+    pub fn check(&mut self) -> bool {
+        let (record, mut tables) = self.lend();
+        raw::check(record, &mut tables)
+    }
+
+    /// The nodes, box corners left out, as a node file without a note.
+    ///
+    /// ```
+    /// let mut mesh = gantry::Mesh::start(4, 4, 4)?;
+    /// mesh.insert([1, 2, 3])?;
+    /// let file = mesh.write_nodes()?;
+    /// assert_eq!(file.len(), 12 + 20);
+    /// assert_eq!(file[..12], [1, 0, 0, 0, 2, 0, 0, 0, 3, 0, 0, 0]);
+    /// # Ok::<(), gantry::Refusal>(())
+    /// ```
+    pub fn write_nodes(&mut self) -> Result<Vec<u8>, Refusal> {
+        let mut file = vec![0; 12 * self.points().len() - 96 + 20];
+        let (record, mut tables) = self.lend();
+        let written = raw::write_nodes(record, &mut tables, &mut file);
+        accepted(written.refusal)?;
+        file.truncate(written.bytes as usize);
+        Ok(file)
+    }
+
+    /// The sides of the box.
+    pub fn sides(&self) -> Position {
+        [self.record.x, self.record.y, self.record.z]
+    }
+
+    /// How many points and cells there is room for.
+    pub fn room(&self) -> Room {
+        Room {
+            points: self.points.len() / 3,
+            cells: self.corners.len() / 4,
+        }
+    }
+
+    /// The points: the eight box corners, then the nodes as they went in.
+    ///
+    /// ```
+    /// let mut mesh = gantry::Mesh::start(4, 4, 4)?;
+    /// mesh.insert([1, 2, 3])?;
+    /// assert_eq!(mesh.points()[7..], [[4, 4, 4], [1, 2, 3]]);
+    /// # Ok::<(), gantry::Refusal>(())
+    /// ```
+    pub fn points(&self) -> &[Position] {
+        &self.points.as_chunks().0[..self.record.points as usize]
+    }
+
+    /// The cells, by number.
+    ///
+    /// ```
+    /// let mesh = gantry::Mesh::start(4, 4, 4)?;
+    /// let walls = mesh.cells().flat_map(|cell| cell.neighbours).filter(Option::is_none);
+    /// assert_eq!(walls.count(), 12);
+    /// # Ok::<(), gantry::Refusal>(())
+    /// ```
+    pub fn cells(&self) -> impl ExactSizeIterator<Item = Cell> + '_ {
+        (0..self.record.cells as usize).map(|number| self.cell_at(number))
+    }
+
+    /// The cell of this number, if there is one.
+    ///
+    /// ```
+    /// let mesh = gantry::Mesh::start(4, 4, 4)?;
+    /// let cell = mesh.cell(3).unwrap();
+    /// assert_eq!(cell.corners, [0, 6, 4, 7]);
+    /// assert_eq!(cell.neighbours, [None, Some(4), Some(2), None]);
+    /// assert_eq!(mesh.cell(6), None);
+    /// # Ok::<(), gantry::Refusal>(())
+    /// ```
+    pub fn cell(&self, number: usize) -> Option<Cell> {
+        (number < self.record.cells as usize).then(|| self.cell_at(number))
+    }
+
+    fn cell_at(&self, number: usize) -> Cell {
+        let corners: [u16; 4] = self.corners.as_chunks().0[number];
+        let neighbours: [u16; 4] = self.neighbours.as_chunks().0[number];
+        Cell {
+            corners: corners.map(usize::from),
+            neighbours: neighbours.map(|u| (u != NO_NEIGHBOUR).then_some(usize::from(u))),
+        }
+    }
+
+    /// Where the corners of the cell of this number are, if there is one.
+    ///
+    /// ```
+    /// let mesh = gantry::Mesh::start(4, 4, 4)?;
+    /// let corners = mesh.corner_positions(3).unwrap();
+    /// assert_eq!(corners, [[0, 0, 0], [0, 4, 4], [0, 0, 4], [4, 4, 4]]);
+    /// # Ok::<(), gantry::Refusal>(())
+    /// ```
+    pub fn corner_positions(&self, number: usize) -> Option<[Position; 4]> {
+        let cell = self.cell(number)?;
+        Some(cell.corners.map(|point| self.points()[point]))
+    }
+}
+
+impl fmt::Debug for Mesh {
+    fn fmt(&self, f: &mut fmt::Formatter) -> fmt::Result {
+        f.debug_struct("Mesh")
+            .field("sides", &self.sides())
+            .field("points", &self.record.points)
+            .field("cells", &self.record.cells)
+            .field("room", &self.room())
+            .finish_non_exhaustive()
+    }
+}

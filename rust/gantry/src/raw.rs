@@ -1,0 +1,238 @@
+//! The C interface of `gantry.h`: its structs, and one function over each call that is lent slices. All `unsafe` of this
+//! crate is here.
+//!
+//! The slices may have any length and content, and the record any numbers: each call answers for all input, and reads and
+//! writes nothing but what it is lent. A field that a refusal leaves without meaning is 0; `refusal` 0 is accepted.
+
+#![allow(unsafe_code, missing_docs)]
+
+use crate::Position;
+
+/// `gantry_mesh`: the record of sides and counts.
+#[repr(C)]
+#[derive(Clone, Copy, Debug, Default, PartialEq, Eq)]
+pub struct Record {
+    pub x: u32,
+    pub y: u32,
+    pub z: u32,
+    pub points: u32,
+    pub cells: u32,
+}
+
+/// `gantry_started`
+#[repr(C)]
+#[derive(Clone, Copy, Debug)]
+pub struct Started {
+    pub refusal: u8,
+    pub mesh: Record,
+}
+
+/// `gantry_inserted`: the record and the report.
+#[repr(C)]
+#[derive(Clone, Copy, Debug)]
+pub struct Inserted {
+    pub refusal: u8,
+    pub mesh: Record,
+    pub point: u32,
+    pub before: u32,
+    pub after: u32,
+    pub made: u32,
+    pub least: f64,
+}
+
+/// `gantry_listed`: `place` is the refused node's, or how many nodes went in.
+#[repr(C)]
+#[derive(Clone, Copy, Debug)]
+pub struct Listed {
+    pub refusal: u8,
+    pub mesh: Record,
+    pub place: u32,
+}
+
+/// `gantry_located`
+#[repr(C)]
+#[derive(Clone, Copy, Debug)]
+pub struct Located {
+    pub refusal: u8,
+    pub cell: u32,
+}
+
+/// `gantry_sphere`: `answer` is 1 inside, 2 outside, 3 close.
+#[repr(C)]
+#[derive(Clone, Copy, Debug)]
+pub struct Sphere {
+    pub refusal: u8,
+    pub answer: u8,
+    pub t: f64,
+}
+
+/// `gantry_read`
+#[repr(C)]
+#[derive(Clone, Copy, Debug)]
+pub struct Read {
+    pub refusal: u8,
+    pub x: u32,
+    pub y: u32,
+    pub z: u32,
+    pub count: u32,
+}
+
+/// `gantry_written`
+#[repr(C)]
+#[derive(Clone, Copy, Debug)]
+pub struct Written {
+    pub refusal: u8,
+    pub bytes: u32,
+}
+
+/// The four tables that every call on a mesh is lent.
+pub struct Tables<'a> {
+    pub points: &'a mut [u32],
+    pub corners: &'a mut [u16],
+    pub neighbours: &'a mut [u16],
+    pub work: &'a mut [u16],
+}
+
+#[rustfmt::skip]
+unsafe extern "C" {
+    safe fn gantry_volume6(
+        ax: i32, ay: i32, az: i32, bx: i32, by: i32, bz: i32,
+        cx: i32, cy: i32, cz: i32, dx: i32, dy: i32, dz: i32,
+    ) -> i64;
+    safe fn gantry_sphere_test(
+        ax: u32, ay: u32, az: u32, bx: u32, by: u32, bz: u32,
+        cx: u32, cy: u32, cz: u32, dx: u32, dy: u32, dz: u32,
+        px: u32, py: u32, pz: u32,
+    ) -> Sphere;
+    fn gantry_start(
+        x: u32, y: u32, z: u32,
+        points: *mut u32, points_len: usize, corners: *mut u16, corners_len: usize,
+        neighbours: *mut u16, neighbours_len: usize, work: *mut u16, work_len: usize,
+    ) -> Started;
+    fn gantry_insert(
+        mesh: Record,
+        points: *mut u32, points_len: usize, corners: *mut u16, corners_len: usize,
+        neighbours: *mut u16, neighbours_len: usize, work: *mut u16, work_len: usize,
+        x: u32, y: u32, z: u32,
+    ) -> Inserted;
+    fn gantry_insert_answers(
+        mesh: Record,
+        points: *mut u32, points_len: usize, corners: *mut u16, corners_len: usize,
+        neighbours: *mut u16, neighbours_len: usize, work: *mut u16, work_len: usize,
+        answers: *const u8, answers_len: usize, x: u32, y: u32, z: u32,
+    ) -> Inserted;
+    fn gantry_insert_list(
+        mesh: Record,
+        points: *mut u32, points_len: usize, corners: *mut u16, corners_len: usize,
+        neighbours: *mut u16, neighbours_len: usize, work: *mut u16, work_len: usize,
+        nodes: *const u32, nodes_len: usize,
+    ) -> Listed;
+    fn gantry_locate(
+        mesh: Record,
+        points: *mut u32, points_len: usize, corners: *mut u16, corners_len: usize,
+        neighbours: *mut u16, neighbours_len: usize, work: *mut u16, work_len: usize,
+        x: u32, y: u32, z: u32,
+    ) -> Located;
+    fn gantry_check(
+        mesh: Record,
+        points: *mut u32, points_len: usize, corners: *mut u16, corners_len: usize,
+        neighbours: *mut u16, neighbours_len: usize, work: *mut u16, work_len: usize,
+    ) -> bool;
+    fn gantry_read_nodes(
+        file: *const u8, file_len: usize, nodes: *mut u32, nodes_len: usize,
+    ) -> Read;
+    fn gantry_write_nodes(
+        mesh: Record,
+        points: *mut u32, points_len: usize, corners: *mut u16, corners_len: usize,
+        neighbours: *mut u16, neighbours_len: usize, work: *mut u16, work_len: usize,
+        out: *mut u8, out_len: usize,
+    ) -> Written;
+}
+
+/// A call on tables: its words before them, the tables, its words after them.
+macro_rules! call {
+    ($call:ident($($before:expr),*; $tables:ident; $($after:expr),*)) => {{
+        let Tables { points, corners, neighbours, work } = $tables;
+        // SAFETY: each pointer and length is that of a slice borrowed until the call returns, those written to are
+        // borrowed mutably, and the call keeps none of them.
+        unsafe {
+            $call(
+                $($before,)*
+                points.as_mut_ptr(), points.len(),
+                corners.as_mut_ptr(), corners.len(),
+                neighbours.as_mut_ptr(), neighbours.len(),
+                work.as_mut_ptr(), work.len(),
+                $($after),*
+            )
+        }
+    }};
+}
+
+pub fn volume6([a, b, c, d]: [[i32; 3]; 4]) -> i64 {
+    gantry_volume6(
+        a[0], a[1], a[2], b[0], b[1], b[2], c[0], c[1], c[2], d[0], d[1], d[2],
+    )
+}
+
+pub fn sphere_test([a, b, c, d]: [Position; 4], p: Position) -> Sphere {
+    gantry_sphere_test(
+        a[0], a[1], a[2], b[0], b[1], b[2], c[0], c[1], c[2], d[0], d[1], d[2], p[0], p[1], p[2],
+    )
+}
+
+pub fn start([x, y, z]: Position, tables: &mut Tables) -> Started {
+    call!(gantry_start(x, y, z; tables;))
+}
+
+pub fn insert(mesh: Record, tables: &mut Tables, [x, y, z]: Position) -> Inserted {
+    call!(gantry_insert(mesh; tables; x, y, z))
+}
+
+pub fn insert_answers(
+    mesh: Record,
+    tables: &mut Tables,
+    answers: &[u8],
+    [x, y, z]: Position,
+) -> Inserted {
+    call!(gantry_insert_answers(mesh; tables; answers.as_ptr(), answers.len(), x, y, z))
+}
+
+pub fn insert_list(mesh: Record, tables: &mut Tables, nodes: &[u32]) -> Listed {
+    call!(gantry_insert_list(mesh; tables; nodes.as_ptr(), nodes.len()))
+}
+
+pub fn locate(mesh: Record, tables: &mut Tables, [x, y, z]: Position) -> Located {
+    call!(gantry_locate(mesh; tables; x, y, z))
+}
+
+pub fn check(mesh: Record, tables: &mut Tables) -> bool {
+    call!(gantry_check(mesh; tables;))
+}
+
+pub fn read_nodes(file: &[u8], nodes: &mut [u32]) -> Read {
+    // SAFETY: as in `call`.
+    unsafe { gantry_read_nodes(file.as_ptr(), file.len(), nodes.as_mut_ptr(), nodes.len()) }
+}
+
+pub fn write_nodes(mesh: Record, tables: &mut Tables, out: &mut [u8]) -> Written {
+    call!(gantry_write_nodes(mesh; tables; out.as_mut_ptr(), out.len()))
+}
+
+/// The layouts; `tests/layout.c` asks the same of `gantry.h`.
+const _: () = {
+    use std::mem::{offset_of, size_of};
+    assert!(size_of::<Record>() == 20 && offset_of!(Record, cells) == 16);
+    assert!(size_of::<Started>() == 24 && offset_of!(Started, mesh) == 4);
+    assert!(size_of::<Inserted>() == 48 && offset_of!(Inserted, mesh) == 4);
+    assert!(offset_of!(Inserted, point) == 24 && offset_of!(Inserted, before) == 28);
+    assert!(offset_of!(Inserted, after) == 32 && offset_of!(Inserted, made) == 36);
+    assert!(offset_of!(Inserted, least) == 40);
+    assert!(size_of::<Listed>() == 28 && offset_of!(Listed, mesh) == 4);
+    assert!(offset_of!(Listed, place) == 24);
+    assert!(size_of::<Located>() == 8 && offset_of!(Located, cell) == 4);
+    assert!(size_of::<Sphere>() == 16 && offset_of!(Sphere, answer) == 1);
+    assert!(offset_of!(Sphere, t) == 8);
+    assert!(size_of::<Read>() == 20 && offset_of!(Read, x) == 4);
+    assert!(offset_of!(Read, count) == 16);
+    assert!(size_of::<Written>() == 8 && offset_of!(Written, bytes) == 4);
+};

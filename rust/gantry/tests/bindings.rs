@@ -1,0 +1,119 @@
+//! The bindings over the archive: what a caller of the C interface would see, in Rust's words.
+
+use gantry::{read_nodes, sphere_test, volume6};
+use gantry::{Mesh, Position, Refusal, Room, SphereAnswer, Stopped, CELL_LIMIT, POINT_LIMIT};
+
+fn lattice(parts: u32, spacing: u32) -> Vec<Position> {
+    let last = parts - 1;
+    (0..parts * parts * parts)
+        .map(|k| [k % parts, k / parts % parts, k / (parts * parts)])
+        .filter(|p| p.iter().any(|&n| n != 0 && n != last))
+        .map(|p| p.map(|n| n * spacing))
+        .collect()
+}
+
+#[test]
+fn numbers_and_names_are_the_table_s() {
+    let names = Refusal::ALL.map(Refusal::name);
+    let table = "short, box, no mesh, outside, taken, points full, unheld, cells full, trailer, no place, flat cell";
+    assert_eq!(names.join(", "), table);
+    for (place, refusal) in Refusal::ALL.into_iter().enumerate() {
+        assert_eq!(refusal.number() as usize, place + 1);
+        assert_eq!(Refusal::from_number(refusal.number()), Some(refusal));
+    }
+    assert_eq!(Refusal::from_number(0), None);
+    assert_eq!(Refusal::from_number(12), None);
+}
+
+#[test]
+fn boxes_and_rooms() {
+    assert!(Mesh::start(131_072, 1, 131_072).is_ok());
+    assert_eq!(Mesh::start(131_073, 1, 1).unwrap_err(), Refusal::Box);
+    let started = |points, cells| Mesh::start_with_room(4, 4, 4, Room { points, cells });
+    assert_eq!(started(7, 6).unwrap_err(), Refusal::Short);
+    assert_eq!(started(8, 5).unwrap_err(), Refusal::Short);
+    assert_eq!(started(0, 0).unwrap_err(), Refusal::Short);
+    let mut tight = started(8, 6).unwrap();
+    assert_eq!(tight.insert([1, 2, 3]), Err(Refusal::PointsFull));
+    assert_eq!(
+        started(usize::MAX, usize::MAX).unwrap().room(),
+        Room::default()
+    );
+}
+
+#[test]
+fn a_lattice_with_every_cell_counted() {
+    let nodes = lattice(5, 3);
+    let mut mesh = Mesh::start(12, 12, 12).unwrap();
+    assert_eq!(mesh.insert_list(&nodes), Ok(117));
+    assert_eq!(mesh.points()[8..], nodes);
+    assert!(mesh.check());
+    let volumes = (0..mesh.cells().len()).map(|number| {
+        let corners = mesh.corner_positions(number).unwrap();
+        volume6(corners.map(|q| q.map(|n| n as i32))).unwrap()
+    });
+    assert!(volumes.clone().all(|volume| volume > 0));
+    assert_eq!(volumes.sum::<i64>(), 6 * 12 * 12 * 12);
+    for (number, cell) in mesh.cells().enumerate() {
+        for across in cell.neighbours.into_iter().flatten() {
+            let back = mesh.cell(across).unwrap().neighbours;
+            assert!(back.contains(&Some(number)));
+        }
+    }
+    let read = read_nodes(&mesh.write_nodes().unwrap()).unwrap();
+    assert_eq!((read.sides, read.nodes), ([12; 3], nodes));
+}
+
+#[test]
+fn a_list_stops_where_the_room_ends() {
+    let walls: Vec<Position> = (0..2_000).map(|k| [1 + k % 50, 1 + k / 50, 0]).collect();
+    let mut mesh = Mesh::start(52, 52, 52).unwrap();
+    let stopped = Stopped {
+        place: POINT_LIMIT - 8,
+        refusal: Refusal::PointsFull,
+    };
+    assert_eq!(mesh.insert_list(&walls), Err(stopped));
+    assert_eq!(mesh.points().len(), POINT_LIMIT);
+    let inner = lattice(12, 7);
+    let mut mesh = Mesh::start(77, 77, 77).unwrap();
+    let stopped = mesh.insert_list(&inner).unwrap_err();
+    assert_eq!(stopped.refusal, Refusal::CellsFull);
+    assert_eq!(mesh.points().len(), 8 + stopped.place);
+    assert!(mesh.cells().len() <= CELL_LIMIT && mesh.check());
+}
+
+#[test]
+fn refusals_change_nothing() {
+    let mut mesh = Mesh::start(4, 4, 4).unwrap();
+    mesh.insert([1, 2, 3]).unwrap();
+    let before = mesh.clone();
+    let cells = before.cells().len();
+    assert_eq!(mesh.insert([4, 4, 4]), Err(Refusal::Taken));
+    assert_eq!(mesh.insert([0, 0, u32::MAX]), Err(Refusal::Outside));
+    let short = vec![1; cells - 1];
+    assert_eq!(mesh.insert_answers(&short, [2, 2, 2]), Err(Refusal::Short));
+    assert_eq!(mesh.insert_list(&[]), Ok(0));
+    assert_eq!(mesh.points(), before.points());
+    assert!(mesh.cells().eq(before.cells()));
+    assert_eq!(format!("{mesh:?}"), format!("{before:?}"));
+}
+
+#[test]
+fn sphere_answers() {
+    let side = 131_072;
+    let cell = [[0, 0, 0], [side, 0, 0], [side, side, 0], [side; 3]];
+    let inside = SphereAnswer::Inside(3.0 * 2f64.powi(83));
+    assert_eq!(sphere_test(cell, [side / 2; 3]), Ok(inside));
+    let small = [[0, 0, 0], [9, 0, 0], [0, 9, 0], [0, 0, 9]];
+    let outside = sphere_test(small, [side; 3]).unwrap();
+    assert!(matches!(outside, SphereAnswer::Outside(t) if t < 0.0));
+    assert!(!outside.is_yes());
+    assert_eq!(sphere_test(small, [side + 1, 0, 0]), Err(Refusal::Outside));
+}
+
+#[test]
+fn files_that_are_refused() {
+    assert_eq!(read_nodes(&[0; 19]), Err(Refusal::Trailer));
+    assert_eq!(read_nodes(&[0; 20]), Err(Refusal::Box));
+    assert_eq!(read_nodes(&[]), Err(Refusal::Trailer));
+}

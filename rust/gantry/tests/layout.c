@@ -1,0 +1,62 @@
+/* The layouts and calls that src/raw.rs declares, asked of gantry.h: cc -fsyntax-only -I DIRECTORY layout.c */
+#include <stdbool.h>
+#include <stddef.h>
+#include <stdint.h>
+
+#include "gantry.h"
+
+#define AT(type, field, place) _Static_assert(offsetof(type, field) == (place), #type "." #field)
+#define SIZE(type, bytes) _Static_assert(sizeof(type) == (bytes), #type)
+
+SIZE(gantry_mesh, 20);
+AT(gantry_mesh, x, 0);
+AT(gantry_mesh, y, 4);
+AT(gantry_mesh, z, 8);
+AT(gantry_mesh, points, 12);
+AT(gantry_mesh, cells, 16);
+SIZE(gantry_started, 24);
+AT(gantry_started, refusal, 0);
+AT(gantry_started, mesh, 4);
+SIZE(gantry_inserted, 48);
+AT(gantry_inserted, refusal, 0);
+AT(gantry_inserted, mesh, 4);
+AT(gantry_inserted, point, 24);
+AT(gantry_inserted, before, 28);
+AT(gantry_inserted, after, 32);
+AT(gantry_inserted, made, 36);
+AT(gantry_inserted, least, 40);
+SIZE(gantry_listed, 28);
+AT(gantry_listed, refusal, 0);
+AT(gantry_listed, mesh, 4);
+AT(gantry_listed, place, 24);
+SIZE(gantry_located, 8);
+AT(gantry_located, refusal, 0);
+AT(gantry_located, cell, 4);
+SIZE(gantry_sphere, 16);
+AT(gantry_sphere, refusal, 0);
+AT(gantry_sphere, answer, 1);
+AT(gantry_sphere, t, 8);
+SIZE(gantry_read, 20);
+AT(gantry_read, refusal, 0);
+AT(gantry_read, x, 4);
+AT(gantry_read, y, 8);
+AT(gantry_read, z, 12);
+AT(gantry_read, count, 16);
+SIZE(gantry_written, 8);
+AT(gantry_written, refusal, 0);
+AT(gantry_written, bytes, 4);
+
+/* A second declaration is an error where it differs from the header's. */
+#define TABLES uint32_t *, size_t, uint16_t *, size_t, uint16_t *, size_t, uint16_t *, size_t
+#define SIGNED_POSITION int32_t, int32_t, int32_t
+#define POSITION uint32_t, uint32_t, uint32_t
+int64_t gantry_volume6(SIGNED_POSITION, SIGNED_POSITION, SIGNED_POSITION, SIGNED_POSITION);
+gantry_sphere gantry_sphere_test(POSITION, POSITION, POSITION, POSITION, POSITION);
+gantry_started gantry_start(POSITION, TABLES);
+gantry_inserted gantry_insert(gantry_mesh, TABLES, POSITION);
+gantry_inserted gantry_insert_answers(gantry_mesh, TABLES, const uint8_t *, size_t, POSITION);
+gantry_listed gantry_insert_list(gantry_mesh, TABLES, const uint32_t *, size_t);
+gantry_located gantry_locate(gantry_mesh, TABLES, POSITION);
+bool gantry_check(gantry_mesh, TABLES);
+gantry_read gantry_read_nodes(const uint8_t *, size_t, uint32_t *, size_t);
+gantry_written gantry_write_nodes(gantry_mesh, TABLES, uint8_t *, size_t);
