@@ -4,8 +4,8 @@
  * Every call ends and answers for all numbers handed in; none allocates, keeps a pointer or a state, or prints. What each one
  * answers and leaves in every lent entry is proved (crates/gantry/specs). All memory is the caller's and is lent for one call:
  * a pointer, then the number of entries behind it. A pointer is aligned for its type, and not NULL even where the length is 0; the
- * areas lent to one call do not overlap, and no other thread touches them meanwhile. This C side has to see to it: nothing can
- * prove it. A call takes up to 32 KiB of stack.
+ * areas lent to one call do not overlap, and no other thread touches them meanwhile. The caller sees to that: it is assumed, not
+ * proved. A call takes less than 32 KiB of stack.
  *
  * Link with libgantry.a alone ('rt staticlib gantry' writes it, for x86-64 Linux); it takes memcpy and memset from the C library.
  */
@@ -36,12 +36,13 @@ extern "C" {
 #define GANTRY_NO_PLACE 10   /* the lent output is shorter than what is to be written */
 #define GANTRY_FLAT_CELL 11  /* a sphere test on a cell of volume 0 or less */
 
-#define GANTRY_INSIDE 1
-#define GANTRY_OUTSIDE_SPHERE 2
-#define GANTRY_CLOSE 3
+/* Sphere answers; 0 in a refusal. */
+#define GANTRY_SPHERE_INSIDE 1
+#define GANTRY_SPHERE_OUTSIDE 2
+#define GANTRY_SPHERE_CLOSE 3
 
-#define GANTRY_NONE 65535                 /* in the neighbour table: no neighbour */
-#define GANTRY_VOLUME_NONE (INT64_C(1) << 62) /* gantry_volume6 with a coordinate outside 0 to 131072 */
+#define GANTRY_NONE 65535                      /* in the neighbour table: no neighbour */
+#define GANTRY_VOLUME_NONE ((int64_t)1 << 62)  /* gantry_volume6 with a coordinate outside 0 to 131072 */
 
 /*
  * The record of a mesh: sides, point count, cell count. The caller keeps it beside the tables, hands it to each call, and goes on
@@ -69,15 +70,14 @@ typedef struct { uint8_t refusal; uint32_t bytes; } gantry_written;
  *   neighbours  4 entries a cell: neighbour i lies across the face opposite corner i; GANTRY_NONE at a wall.
  *   work        3 entries a cell, of any content. Every call that is lent one sets all of it to 0, accepted or refused.
  *
- * A length is in entries, not in bytes. The lengths over 3, 4, 4 and 3 are the capacities: 8 to 1024 points count, and 6 to 4096
- * cells (the least of the three); what a table has beyond that is not used. An insertion counts old and new cells together: leave
- * room for more cells than the mesh ends with. Entries past the mesh's own may hold anything.
+ * A length is in entries, not in bytes. points_len / 3 is the point capacity: 8 or more, and 1024 at most are used. The least of
+ * corners_len / 4, neighbours_len / 4 and work_len / 3 is the cell capacity: 6 or more, and 4096 at most are used. An insertion
+ * counts the old cells and the new ones together, so leave room for more cells than the mesh ends with. Entries past the mesh's
+ * own may hold anything.
  */
-#define GANTRY_TABLES                       \
-    uint32_t *points, size_t points_len,    \
-    uint16_t *corners, size_t corners_len,  \
-    uint16_t *neighbours, size_t neighbours_len, \
-    uint16_t *work, size_t work_len
+#define GANTRY_TABLES                                                              \
+    uint32_t *points, size_t points_len, uint16_t *corners, size_t corners_len,    \
+    uint16_t *neighbours, size_t neighbours_len, uint16_t *work, size_t work_len
 
 /* The mesh of a box: its eight corners and six cells. Refusals 1 2. */
 gantry_started gantry_start(uint32_t x, uint32_t y, uint32_t z, GANTRY_TABLES);
@@ -119,6 +119,8 @@ int64_t gantry_volume6(int32_t ax, int32_t ay, int32_t az, int32_t bx, int32_t b
 gantry_sphere gantry_sphere_test(uint32_t ax, uint32_t ay, uint32_t az, uint32_t bx, uint32_t by, uint32_t bz,
                                  uint32_t cx, uint32_t cy, uint32_t cz, uint32_t dx, uint32_t dy, uint32_t dz,
                                  uint32_t px, uint32_t py, uint32_t pz);
+
+#undef GANTRY_TABLES
 
 #ifdef __cplusplus
 }

@@ -1,5 +1,5 @@
--- The numbers of the C interface: what C is given for each case of an answer. 'refusal is 0 where the call was accepted'; 'a field that
--- a refusal leaves without meaning is 0'.
+-- The numbers of the C interface (include/gantry.h): what C is given for each case of an answer. The refusal is 0 where the call was
+-- accepted, and a field that a refusal leaves without meaning is 0.
 use Prim.Native.Nat.{ℕ}
 use Rattle.geometry.specs.declared.Position.{Position}
 use Rattle.geometry.specs.declared.Sphere.{Sphere}
@@ -37,7 +37,7 @@ recordOf m = record { x = m .x; y = m .y; z = m .z; points = m .points; cells = 
 abbrev pub meshOf : Mesh → GantryMesh
 meshOf m = record { x = m .x; y = m .y; z = m .z; points = m .points; cells = m .cells }
 
--- 'a refused start answers a record of zeros, since none goes in'
+-- of a refused start, since no record goes in
 abbrev pub noMesh : GantryMesh
 noMesh = record { x = 0; y = 0; z = 0; points = 0; cells = 0 }
 
@@ -49,7 +49,7 @@ unfoldable pub startedOf : Started → GantryStarted
 startedOf (StartAccepted m) = record { refusal = 0; mesh = meshOf m }
 startedOf (StartRefused e) = record { refusal = e; mesh = noMesh }
 
--- of a call that was handed the record m: '`mesh` of a refused call is the record as it then stands'
+-- of a call that was handed the record m, which a refusal leaves as it was
 unfoldable pub insertedOf : GantryMesh → Inserted → GantryInserted
 insertedOf m (Accepted m′ r) =
     record {
@@ -64,7 +64,7 @@ insertedOf m (Accepted m′ r) =
 insertedOf m (Refused e) =
     record { refusal = e; mesh = m; point = 0; before = 0; after = 0; made = 0; least = zeroFloat }
 
--- 'place: of the refused node, or how many went in'
+-- the place is that of the refused node, or how many went in; a stopped list has the record that its last accepted node left
 unfoldable pub listedOf : GantryMesh → Listed → GantryListed
 listedOf m (Ended m′ count) = record { refusal = 0; mesh = meshOf m′; place = count }
 listedOf m (Stopped m′ place e) = record { refusal = e; mesh = meshOf m′; place = place }
@@ -74,7 +74,7 @@ unfoldable pub locatedOf : Located → GantryLocated
 locatedOf (Cell c) = record { refusal = 0; cell = c }
 locatedOf (LocateRefused e) = record { refusal = e; cell = 0 }
 
--- '1 inside, 2 outside, 3 close'
+-- 1 inside, 2 outside, 3 close
 unfoldable pub sphereOf : Sphere → GantrySphere
 sphereOf (Inside t) = record { refusal = 0; answer = 1; t = t }
 sphereOf (Outside t) = record { refusal = 0; answer = 2; t = t }

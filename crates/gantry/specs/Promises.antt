@@ -1,5 +1,5 @@
--- What each C call answers and leaves in what it is lent: the calls' own definitions, with the interface's numbers. The tables of a
--- call that has none here are lent for reading alone.
+-- What each C call answers, and leaves in what it is lent: the calls' own definitions, with the interface's numbers. Where no tables
+-- are left, they are lent for reading alone.
 use Prim.Native.Nat.{ℕ}
 use mathlib.Core.List.{List}
 use mathlib.Core.Path.{_≡_}
@@ -22,8 +22,7 @@ use Rattle.gantry.specs.declared.GantryRead.{GantryRead}
 use Rattle.gantry.specs.declared.GantryWritten.{GantryWritten}
 use Rattle.gantry.specs.Numbers.{recordOf, startedOf, insertedOf, listedOf, locatedOf, readOf, writtenOf}
 
--- tables t and a work area ws are lent, and left as t′ and ws′
-
+-- tables t and a work area ws are lent, and left as t′ and ws′; a refusal, too, is one of the definitions' cases
 pub record Starts (X Y Z : ℕ) (t : Tables) (ws : List ℕ) (r : GantryStarted) (t′ : Tables) (ws′ : List ℕ) : Type 0 where
   pub answer : r ≡ startedOf (startAnswer X Y Z t (length ws))
   pub tables : t′ ≡ startTables X Y Z t (length ws)

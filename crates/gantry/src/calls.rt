@@ -1,3 +1,5 @@
+// The exported calls. Each hands its numbers to the call of a lower crate and turns that one's answer into the interface's numbers.
+
 ghost use mathlib.Core.Path.{_≡_};
 ghost use lib.ListN.{length};
 ghost use Rattle.geometry.specs.Volume.{volumeOfNumbers};
