@@ -72,3 +72,22 @@ impl GuardedTables {
         }
     }
 }
+
+#[cfg(test)]
+mod tests {
+    use super::*;
+
+    #[test]
+    fn a_write_past_either_end_is_seen() {
+        let whole = Guarded::new(&[1u16, 2, 3], 0xA5A5);
+        assert!(whole.guards_are_whole());
+        for place in [0, GUARD - 1, GUARD + 3, 2 * GUARD + 2] {
+            let mut written = whole.clone();
+            written.entries[place] = 0;
+            assert!(!written.guards_are_whole());
+        }
+        let mut written = whole;
+        written.lend().fill(0);
+        assert!(written.guards_are_whole());
+    }
+}

@@ -31,3 +31,11 @@ fn the_picture_has_its_place_on_the_page() {
     assert!(text.ends_with("</g>\n</svg>\n"));
     assert!(!text.contains("NaN") && !text.contains("inf"));
 }
+
+#[test]
+fn the_picture_in_docs_is_this_one() {
+    let file = tools::text::node_file(include_bytes!("../lattice.txt")).unwrap();
+    let (grid, stopped) = from_node_file(&file).unwrap();
+    assert_eq!(stopped, None);
+    assert_eq!(grid.to_svg(), include_str!("../../../docs/mesh.svg"));
+}
