@@ -11,22 +11,15 @@ use mesh::Mesh;
 use mesh::tables::load;
 use mesh::tables::point_at;
 
+// The first place that has v, 8 where none does: by multiplication, since branches on where a point stands cannot be foreseen.
 fn place_in(b: [u16; 4], v: u16) -> usize
     ensures { λ r. ⌜ r ≡ placeIn b v ⌝ }
 {
-    if b[0] == v {
-        return 0;
-    }
-    if b[1] == v {
-        return 1;
-    }
-    if b[2] == v {
-        return 2;
-    }
-    if b[3] == v {
-        return 3;
-    }
-    8
+    let e0 = (b[0] != v) as usize;
+    let e1 = (b[1] != v) as usize;
+    let e2 = (b[2] != v) as usize;
+    let e3 = (b[3] != v) as usize;
+    e0 * (1 + e1 * (1 + e2 * (1 + 5 * e3)))
 }
 
 fn odd_order(i: usize, k: usize, p: usize, q: usize, r: usize) -> bool

@@ -1,7 +1,7 @@
 -- What a list of nodes leaves in a started box, in the words of the calls' contracts.
-use Prim.Native.Nat.{ℕ, zero, suc, _+_, _*_, _-_, _/_, _%_, _≤_, _<_}
+use Prim.Native.Nat.{ℕ, zero, suc, _+_, _*_, _/_, _%_, _≤_, _<_}
 use mathlib.Core.List.{List, [], _∷_, _++_, append-nil}
-use mathlib.Core.Path.{_≡_, refl, sym, ap, ap₂, _∙_, subst}
+use mathlib.Core.Path.{_≡_, refl, sym, ap, _∙_}
 use native.Mathlib.Omega.{arith}
 use lib.ListN.{length, getD, take, drop, length-append, length-take, length-drop}
 use lib.Seq.{getD-append-add, getD-take, getD-drop, ext-getD}
@@ -14,7 +14,6 @@ use Rattle.mesh.specs.Tables.{Tables, pointCapacity, cellCapacity, pointIn, poi
 use Rattle.mesh.specs.Mesh.{boxCorner, IsMesh}
 use Rattle.mesh.specs.Start.{StartLeaves}
 use Rattle.insertion.specs.declared.Listed.{Listed}
-use Rattle.insertion.specs.declared.Listed.the-variants.{Ended}
 use Rattle.insertion.specs.List.{listedNode, nodeCount, listCall, ListLeaves}
 use Rattle.insertion.specs.Calls.{Build, by-list, meshOfList, acceptedNodes, listOutcome, outcome, meshAfter, acceptedBy, Claim}
 use Rattle.insertion.proofs.Calls.{every-list-after-a-start}

@@ -3,7 +3,7 @@ use Prim.Native.Nat.{ℕ, _+_, _*_, _≤_}
 use mathlib.Core.List.{List}
 use mathlib.Core.Path.{_≡_, sym, ap, _∙_}
 use native.Mathlib.Omega.{arith}
-use lib.ListN.{length, take, drop, length-append, length-take, length-drop}
+use lib.ListN.{length, take, drop, length-append, length-take}
 use Rattle.insertion.specs.Calls.{meshOfList, acceptedNodes}
 use Rattle.nodefile.specs.declared.Header.{Header}
 use Rattle.nodefile.specs.declared.Read.the-variants.{Nodes}
@@ -11,7 +11,7 @@ use Rattle.nodefile.specs.Read.{nodes, ReadLeaves}
 use Rattle.nodefile.specs.Write.{nodeCount, nodesOf}
 use Rattle.nodefile.specs.RoundTrip.{HoldsRead}
 use Rattle.nodefile.proofs.RoundTrips.{read, nodes-read, read-then-written}
-use Rattle.roundtrip.specs.Through.{Through, ComesBack}
+use Rattle.roundtrip.specs.Through.{ComesBack}
 use Rattle.roundtrip.proofs.StartedList.{claim-after-list, listed-points}
 
 -- the numbers that were read, three a node, from the front of the reader's output

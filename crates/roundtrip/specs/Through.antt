@@ -17,7 +17,7 @@ use Rattle.nodefile.specs.Read.{firstRecord, ReadLeaves}
 use Rattle.nodefile.specs.Write.{WriteLeaves}
 use Rattle.nodefile.specs.RoundTrip.{IsBytes}
 
--- the file's n bytes come back at the front of out
+-- n bytes are written at the front of out
 pub record Through (file : List ℕ) (n : ℕ) (out : List ℕ) : Type 0 where
   -- the reader's lent numbers may be more than the nodes take
   pub lent : List ℕ
