@@ -1,4 +1,4 @@
--- The tests as facts, the growth, and the correction.
+-- The tests as facts, the growth and the correction as definitions, and the loops that compute them.
 pub mod Tests
 pub mod Correction
 pub mod Growth

@@ -9,7 +9,6 @@ ghost use Rattle.cavity.specs.Inner.{Ready, setOf, withCell, Empty, Scan
 use crate::Gathered;
 use crate::Node;
 use crate::answering::answer_of;
-use geometry::Position;
 use locate::holding::cell_holds;
 use mesh::tables::four_at;
 

@@ -9,7 +9,7 @@ use Rattle.mesh.specs.Tables.{Tables, cleared}
 use Rattle.mesh.specs.Start.{startAnswer, startTables}
 use Rattle.locate.specs.Locate.{locateCall}
 use Rattle.cavity.specs.Answers.{Answers}
-use Rattle.insertion.specs.Insertion.{Result, insertCall}
+use Rattle.insertion.specs.Insertion.{insertCall}
 use Rattle.insertion.specs.List.{listCall}
 use Rattle.nodefile.specs.Read.{readAnswer, readOutput}
 use Rattle.nodefile.specs.Write.{writeAnswer, writeOutput}

@@ -1,4 +1,4 @@
-// The mesh record and its lent tables: start, mesh check, locate.
+// The mesh record, its lent tables and starting.
 
 pub mod starting;
 pub mod tables;

@@ -11,7 +11,7 @@ use Rattle.cavity.specs.Cavity.{inSet, coplanar, visible}
 use Rattle.star.specs.Turn.{outFace, turn}
 
 -- 'turn round that edge through spot cells to the next outer face': from face f, round the edge that it shares with face j of its
--- cell. A turn passes no cell twice (`turn-any` in proofs/TurnCells), so as many steps as there are cells are enough.
+-- cell. A turn passes no cell twice (`cell-once` in proofs/Turn), so as many steps as there are cells are enough.
 unfoldable pub turnFace : Tables → ℕ → List Bool → ℕ → ℕ → ℕ
 turnFace t n s f j = outFace (turn (corner t) (across t) (mate t) (inSet s) n record { cell = cellOf f; entry = opposite f; exit = j })
 

@@ -69,6 +69,20 @@ impl SphereAnswer {
             SphereAnswer::Close(t) => t > 0.0,
         }
     }
+
+    /// The answer of the C interface.
+    pub fn report(self) -> Sphere {
+        let (answer, t) = match self {
+            SphereAnswer::Inside(t) => (INSIDE, t),
+            SphereAnswer::Outside(t) => (OUTSIDE, t),
+            SphereAnswer::Close(t) => (CLOSE, t),
+        };
+        Sphere {
+            refusal: 0,
+            answer,
+            t,
+        }
+    }
 }
 
 pub fn sphere_test(corners: [Position; 4], p: Position) -> Sphere {
@@ -83,14 +97,5 @@ pub fn sphere_test(corners: [Position; 4], p: Position) -> Sphere {
     if volume(corners) <= 0 {
         return refused(11);
     }
-    let (answer, t) = match SphereAnswer::of(sphere_sum(corners, p)) {
-        SphereAnswer::Inside(t) => (INSIDE, t),
-        SphereAnswer::Outside(t) => (OUTSIDE, t),
-        SphereAnswer::Close(t) => (CLOSE, t),
-    };
-    Sphere {
-        refusal: 0,
-        answer,
-        t,
-    }
+    SphereAnswer::of(sphere_sum(corners, p)).report()
 }

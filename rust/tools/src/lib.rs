@@ -6,6 +6,7 @@ pub mod svg;
 pub mod text;
 
 use std::io::{self, Read, Write};
+use std::process::ExitCode;
 
 use grid::Grid;
 
@@ -23,6 +24,17 @@ pub fn read_input(name: &str) -> Result<Vec<u8>, String> {
 pub fn write_output(bytes: &[u8]) -> Result<(), String> {
     let written = io::stdout().write_all(bytes);
     written.map_err(|error| format!("standard output: {error}"))
+}
+
+/// A program's whole work; an error is said on standard error.
+pub fn run(work: fn() -> Result<(), String>) -> ExitCode {
+    match work() {
+        Ok(()) => ExitCode::SUCCESS,
+        Err(message) => {
+            eprintln!("{message}");
+            ExitCode::FAILURE
+        }
+    }
 }
 
 /// The mesh that a program's words name, `NODES` or `--listing LISTING NODES`; else its usage.

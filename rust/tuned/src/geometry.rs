@@ -2,7 +2,7 @@
 //! six-fold volume's three terms within 2^52.
 
 use plain::geometry::{SphereAnswer, OUT_OF_RANGE};
-use plain::{Position, Sphere, CLOSE, INSIDE, OUTSIDE, SIDE_LIMIT};
+use plain::{Position, Sphere, SIDE_LIMIT};
 
 pub type Offset = [i64; 3];
 
@@ -73,14 +73,5 @@ pub fn sphere_test(corners: [Position; 4], p: Position) -> Sphere {
     if v.iter().sum::<i64>() <= 0 {
         return refused(11);
     }
-    let (answer, t) = match SphereAnswer::of(sphere_sum(v, offsets)) {
-        SphereAnswer::Inside(t) => (INSIDE, t),
-        SphereAnswer::Outside(t) => (OUTSIDE, t),
-        SphereAnswer::Close(t) => (CLOSE, t),
-    };
-    Sphere {
-        refusal: 0,
-        answer,
-        t,
-    }
+    SphereAnswer::of(sphere_sum(v, offsets)).report()
 }

@@ -1,6 +1,5 @@
 //! nodes [FILE]: plain text to a node file on standard output.
 
-use std::io::Write;
 use std::process::ExitCode;
 
 const USAGE: &str = "usage: nodes [FILE]
@@ -16,16 +15,9 @@ fn convert() -> Result<(), String> {
     };
     let text = tools::read_input(name)?;
     let file = tools::text::node_file(&text)?;
-    let written = std::io::stdout().write_all(&file);
-    written.map_err(|error| format!("standard output: {error}"))
+    tools::write_output(&file)
 }
 
 fn main() -> ExitCode {
-    match convert() {
-        Ok(()) => ExitCode::SUCCESS,
-        Err(message) => {
-            eprintln!("{message}");
-            ExitCode::FAILURE
-        }
-    }
+    tools::run(convert)
 }

@@ -13,11 +13,5 @@ fn convert() -> Result<(), String> {
 }
 
 fn main() -> ExitCode {
-    match convert() {
-        Ok(()) => ExitCode::SUCCESS,
-        Err(message) => {
-            eprintln!("{message}");
-            ExitCode::FAILURE
-        }
-    }
+    tools::run(convert)
 }
