@@ -20,7 +20,7 @@ use Rattle.arith.proofs.Tables.{tabulate-at}
 use Rattle.geometry.specs.declared.Position.{Position}
 use Rattle.geometry.specs.Volume.{InRange, volume, replaced}
 use Rattle.mesh.specs.declared.Cell.{Cell}
-use Rattle.mesh.specs.Tables.{Tables, none, cellOf, pointIn, corner, across, side}
+use Rattle.mesh.specs.Tables.{Tables, none, cellOf, pointIn, across, side}
 use Rattle.mesh.specs.Inner.{tables, fourAt, cellAt}
 use Rattle.mesh.specs.Adjacency.{first, second, third}
 use Rattle.mesh.proofs.Numbers.{four-entry, others}

@@ -55,9 +55,6 @@ module _ {m : Mesh} {t : Tables} {w : ℕ} {bytes : List ℕ} {d : Node} (A : Ad
   M : MeshFor m t w
   M = check-mesh (m .x) (m .y) (m .z) (pointCapacity t) (cellCapacity t w) (m .points) (m .cells) t (A .mesh)
 
-  whole-mesh : MeshOf t (m .points) (m .cells)
-  whole-mesh = record { X = m .x; Y = m .y; Z = m .z; w = w; mesh = M }
-
   pub node-mesh : MeshOf t (d .points) (d .cells)
   node-mesh = record {
     X = m .x;

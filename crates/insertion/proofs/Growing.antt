@@ -1,12 +1,11 @@
 -- What an accepted node leaves: the mesh again, and one point more.
-use Prim.Native.Nat.{ℕ, zero, suc, _+_, _/_, _≤_, _<_, min}
+use Prim.Native.Nat.{ℕ, _+_, _/_, _≤_, min}
 use mathlib.Core.Bool.{true}
 use mathlib.Core.List.{_∷_, _++_, []}
-use mathlib.Core.Path.{_≡_, refl, sym, ap, ap₂, _∙_}
-use native.Mathlib.Nat.{add-zero, add-suc, suc-add, zero-add}
+use mathlib.Core.Path.{_≡_, ap, ap₂, _∙_}
 use native.Mathlib.Numerals.{add-one}
 use native.Mathlib.Omega.{arith}
-use Rattle.arith.specs.Table.{fill, tabulate}
+use Rattle.arith.specs.Table.{tabulate}
 use Rattle.arith.proofs.Tables.{tabulate-length, tabulate-suc, tabulate-cong}
 use Rattle.geometry.specs.declared.Position.{Position}
 use Rattle.mesh.specs.declared.Mesh.{Mesh}

@@ -3,10 +3,10 @@ use Prim.Native.Nat.{ℕ, _+_, _≤_, _<_}
 use mathlib.Core.Bool.{Bool, true, false, not, cond}
 use mathlib.Core.List.{List}
 use mathlib.Core.Logic.{_≢_, _⊎_, inl, inr}
-use mathlib.Core.Path.{_≡_, refl, sym, ap, _∙_, subst}
+use mathlib.Core.Path.{_≡_, refl, sym, ap, _∙_}
 use native.Mathlib.Decide.{ℕ-discrete}
 use native.Mathlib.Omega.{arith}
-use borrow.Author.Tests.{eqb-true, eqb-false, ne-eqb, ltb-true, ltb-false, not-false}
+use borrow.Author.Tests.{eqb-true, eqb-false, ne-eqb, ltb-false, not-false}
 use lib.Dec.{ltb, eqb}
 use lib.ListN.{length}
 use Rattle.arith.specs.Table.{anyBelow}
@@ -18,9 +18,8 @@ use Rattle.geometry.proofs.Ranges.{box-in}
 use Rattle.mesh.specs.declared.Mesh.{Mesh}
 use Rattle.mesh.specs.Tables.{Tables, pointCapacity, cellCapacity, cleared, point}
 use Rattle.mesh.specs.Mesh.{IsMesh}
-use Rattle.mesh.proofs.Checked.{same-position-yes, check-mesh}
+use Rattle.mesh.proofs.Checked.{same-position-yes}
 use Rattle.meshcheck.specs.Refusal.{meshRefusal}
-use Rattle.meshcheck.proofs.Verdict.{passed}
 use Rattle.locate.specs.Locate.{holds}
 use Rattle.cavity.specs.Answers.{Answers}
 use Rattle.insertion.specs.declared.Report.{Report}
@@ -31,11 +30,6 @@ use Rattle.insertion.specs.Insertion.{cellsMade, nodeRefusal, fewerBytes
 -- a record and tables are a mesh for a work area of w entries
 abbrev pub MeshFor : Mesh → Tables → ℕ → Type 0
 MeshFor m t w = IsMesh (m .x) (m .y) (m .z) (pointCapacity t) (cellCapacity t w) (m .points) (m .cells) t
-
--- no refusal up to 3: a mesh
-pub passed-mesh : (m : Mesh) (t : Tables) (w : ℕ) (fewer : Bool) → meshRefusal m t w fewer ≡ 0 → MeshFor m t w
-passed-mesh m t w fewer e =
-    check-mesh (m .x) (m .y) (m .z) (pointCapacity t) (cellCapacity t w) (m .points) (m .cells) t (passed m t w fewer e)
 
 -- a test of a chain of refusals that comes to 0
 pub test-to-zero : {b : Bool} {k r : ℕ} → 1 ≤ k → cond b k r ≡ 0 → (b ≡ false) × (r ≡ 0)
@@ -114,28 +108,6 @@ module _ (m : Mesh) (t : Tables) (w : ℕ) (p : Position) (a : Answers) where
         holder = any-found (m .cells) (holds t p) (not-false held (t₄ .0));
         cells = ltb-false (cellCapacity t w) (m .cells + cellsMade m t p a) (t₅ .0);
       }
-
-  -- what each number says of the node
-  pub data Reason : ℕ → Type 0 where
-    outside : inside ≡ false → Reason 4
-    taken : Found (m .points) there → Reason 5
-    points-full : m .points ≡ pointCapacity t → Reason 6
-    unheld : held ≡ false → Reason 7
-    cells-full : cellCapacity t w < m .cells + cellsMade m t p a → Reason 8
-    accepted : NodeFits → Reason 0
-
-  pub node-reason : Reason (nodeRefusal m t w p a)
-  node-reason = go (split inside) (split someThere) (split pointsFull) (split held) (split cellsFull)
-    where
-      go : (inside ≡ true) ⊎ (inside ≡ false) → (someThere ≡ true) ⊎ (someThere ≡ false) → (pointsFull ≡ true) ⊎ (pointsFull ≡ false) →
-          (held ≡ true) ⊎ (held ≡ false) → (cellsFull ≡ true) ⊎ (cellsFull ≡ false) → Reason (nodeRefusal m t w p a)
-      go (inr b) s f h c = subst Reason (sym (is-outside b)) (outside b)
-      go (inl b) (inl s) f h c = subst Reason (sym (is-taken b s)) (taken (any-found (m .points) there s))
-      go (inl b) (inr s) (inl f) h c = subst Reason (sym (is-points-full b s f)) (points-full (eqb-true (m .points) (pointCapacity t) f))
-      go (inl b) (inr s) (inr f) (inr h) c = subst Reason (sym (is-unheld b s f h)) (unheld h)
-      go (inl b) (inr s) (inr f) (inl h) (inl c) = subst Reason (sym (is-cells-full b s f h c)) (cells-full (ltb-true (cellCapacity t w) (m .cells + cellsMade m t p a) c))
-      go (inl b) (inr s) (inr f) (inl h) (inr c) =
-          let e = is-accepted b s f h c in subst Reason (sym e) (accepted (node-fits e))
 
   -- ---- answers from refusals
 

@@ -1,15 +1,13 @@
 -- The list, node by node.
-use Prim.Native.Nat.{ℕ, zero, suc, _+_, _-_, _≤_, _<_}
+use Prim.Native.Nat.{ℕ, suc, _+_, _-_, _≤_, _<_}
 use mathlib.Core.Bool.{false}
 use mathlib.Core.List.{List}
 use mathlib.Core.Logic.{_≢_}
-use mathlib.Core.Path.{_≡_, refl, sym, ap, _∙_}
-use native.Mathlib.Decide.{ℕ-discrete}
+use mathlib.Core.Path.{_≡_, sym, ap, _∙_}
 use native.Mathlib.Numerals.{add-one}
 use native.Mathlib.Omega.{arith}
 use borrow.Author.Tests.{ne-eqb}
 use lib.ListN.{length}
-use Rattle.geometry.specs.declared.Position.{Position}
 use Rattle.mesh.specs.declared.Mesh.{Mesh}
 use Rattle.mesh.specs.Tables.{Tables, cleared}
 use Rattle.meshcheck.specs.Refusal.{meshRefusal}
@@ -18,9 +16,8 @@ use Rattle.insertion.specs.declared.Report.{Report}
 use Rattle.insertion.specs.declared.Inserted.the-variants.{Accepted, Refused}
 use Rattle.insertion.specs.declared.Listed.{Listed}
 use Rattle.insertion.specs.declared.Listed.the-variants.{Ended, Stopped, Refused as AllRefused}
-use Rattle.insertion.specs.Insertion.{Result, nodeRefusal, insertedMesh, insertedTables, insertNode}
+use Rattle.insertion.specs.Insertion.{Result, insertNode}
 use Rattle.insertion.specs.List.{listedNode, nodeCount, insertFrom, listCall, ListLeaves}
-use Rattle.insertion.proofs.Refusals.{node-accepted, node-refused}
 
 module _ (m : Mesh) (t : Tables) (w : ℕ) (ns : List ℕ) where
   pub list-refused : {r : ℕ} → meshRefusal m t w false ≡ r → r ≢ 0 → listCall m t w ns ≡ record { answer = AllRefused r; tables = t }
@@ -65,23 +62,6 @@ module _ (m : Mesh) (t : Tables) (w : ℕ) (ns : List ℕ) where
     pub list-ends : (n : ℕ) → n ≤ i → insertFrom (n - i) i m t w ns ≡ record { answer = Ended m i; tables = t }
     unfolding insertFrom
     list-ends n h = let e : n - i ≡ 0 = omega arith in ap (λ k. insertFrom k i m t w ns) e
-
--- 'A list that ends answers how many nodes went in': all of them
-pub ended-all : (w : ℕ) (ns : List ℕ) (k i : ℕ) (m : Mesh) (t : Tables) {m′ : Mesh} {c : ℕ} → insertFrom k i m t w ns .answer ≡ Ended m′ c → c ≡ i + k
-unfolding insertFrom
-ended-all w ns zero i m t {m′} {c} e = let q : i ≡ c = cc in omega arith
-ended-all w ns (suc k) i m t {m′} {c} e = go (λ f. ended-all w ns k (suc i) (insertedMesh m t p sphere) (insertedTables m t p sphere) f) (ℕ-discrete (nodeRefusal m t w p sphere) 0)
-  where
-    p : Position
-    p = listedNode ns i
-
-    go : (insertFrom k (suc i) (insertedMesh m t p sphere) (insertedTables m t p sphere) w ns .answer ≡ Ended m′ c → c ≡ suc i + k) →
-        Dec (nodeRefusal m t w p sphere ≡ 0) → c ≡ i + suc k
-    go rest (yes h) =
-        let q = rest (sym (ap (λ l. l .answer) (node-in m t w ns i k (node-accepted m t w p sphere h))) ∙ e) in omega arith
-    go rest (no h) =
-        let f : Stopped m i (nodeRefusal m t w p sphere) ≡ Ended m′ c = sym (ap (λ l. l .answer) (node-out m t w ns i k (node-refused m t w p sphere refl h))) ∙ e in
-        let z : _≡_ {A = ℕ} 0 1 = cc in absurd (omega arith)
 
 -- ---- the contract of the call
 

@@ -1,5 +1,5 @@
 -- Document 01, 'Lists of calls': what a list of insertion calls leaves, which nodes it accepts, and condition 3.
-use Prim.Native.Nat.{ℕ, _+_, _*_, _≤_, _<_}
+use Prim.Native.Nat.{ℕ, _*_, _≤_, _<_}
 use mathlib.Core.List.{List, [], _∷_, _++_}
 use mathlib.Core.Path.{_≡_}
 use lib.IntN.{pos}

@@ -1,7 +1,6 @@
 ghost use mathlib.Core.Path.{_≡_};
 ghost use Prim.Native.Nat.{_≤_, _<_, _*_};
 ghost use lib.ListN.{length, getD};
-ghost use Rattle.locate.specs.Locate.{holds};
 ghost use Rattle.locate.specs.Inner.{axisCode, sideCode, sideCodes, sharedBits, holdsFour, Coded};
 use geometry::Position;
 use geometry::volume::volumes_at;

@@ -25,9 +25,6 @@ module _ {X Y Z pc cc np n : ℕ} {t : Tables} (M : IsMesh X Y Z pc cc np n t) (
   unfolding cornerAt
   mate-by-name f k f< real k< e = go (ℕ-discrete k (opposite (mate t f)))
     where
-      u : ℕ
-      u = across t f
-
       g : ℕ
       g = 4 * across t f + k
 

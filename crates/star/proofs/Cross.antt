@@ -30,9 +30,6 @@ state-eq p q r = λ i. record { cell = p i; entry = q i; exit = r i }
 pub flip-valid : {S : ℕ → Bool} {s : State} → Valid S s → Valid S (flip s)
 flip-valid w = record { held = w .held; entry< = w .exit<; exit< = w .entry<; apart = λ e. w .apart (sym e) }
 
-pub flip-edge : {corner : ℕ → ℕ → ℕ} {s : State} {v : ℕ} → OnEdge corner s v → OnEdge corner (flip s) v
-flip-edge o = record { place = o .place; place< = o .place<; off-entry = o .off-exit; off-exit = o .off-entry; is = o .is }
-
 module _ {n : ℕ} {corner : ℕ → ℕ → ℕ} {across mate : ℕ → ℕ} (G : Glued n corner across mate) where
   pub place-is : (c l : ℕ) → c < n → l < 4 → placeOf corner c (corner c l) ≡ l
   place-is c l h = place-found corner c (λ i j. G .distinct c i j h) l
@@ -113,12 +110,6 @@ module _ {n : ℕ} {corner : ℕ → ℕ → ℕ} {across mate : ℕ → ℕ} (G
       -- and the way back is a crossing too
       pub back-inner : S (across (outFace (flip (cross corner across mate s)))) ≡ true
       back-inner = rw cross-back (w .held)
-
-    pub off-edge : (s : State) → Valid S s → S (across (outFace s)) ≡ true →
-        (v : ℕ) → OnEdge corner (cross corner across mate s) v → OnEdge corner s v
-    off-edge s w I v o =
-        flip-edge (rw (cross-flip-cross s w I) at
-        (on-edge (flip (cross corner across mate s)) (flip-valid (cross-valid s w I)) (back-inner s w I) v (flip-edge o)))
 
     pub cross-inj : (s t : State) → Valid S s → Valid S t → S (across (outFace s)) ≡ true → S (across (outFace t)) ≡ true →
         cross corner across mate s ≡ cross corner across mate t → s ≡ t

@@ -20,7 +20,6 @@ use Rattle.mesh.specs.Inner.{withFour}
 use Rattle.mesh.proofs.Room.{Room}
 use Rattle.mesh.proofs.FaceNumbers.{face-cell, face-opposite, face-eq, opposite<}
 use Rattle.mesh.proofs.Faces.{mated, mate<, mate-real, mate-mate}
-use Rattle.mesh.proofs.Faces as faces
 use Rattle.mesh.proofs.Mates.{mate-by-name}
 use Rattle.mesh.proofs.Loops.{length-four}
 use Rattle.cavity.specs.Cavity.{inSet, visible}
@@ -101,9 +100,6 @@ module _ {X Y Z pc cc np n : ℕ} {t : Tables} (M : IsMesh X Y Z pc cc np n t) (
     ns₁-in j h =
         four-same ns d (F .cell .neighbours) (omega (arith, S .neighbours-long, R .neighbours-fit, room, d<)) j h ∙ F .new .neighbours-are j h
 
-    few : n ≤ 4096
-    few = faces.few M R
-
     module _ (real : across t f ≢ none) where
       u : ℕ
       u = across t f
@@ -118,10 +114,6 @@ module _ {X Y Z pc cc np n : ℕ} {t : Tables} (M : IsMesh X Y Z pc cc np n t) (
       g< : g < 4 * n
       unfolding g
       g< = mate< M R f f< real
-
-      g-real : across t g ≢ none
-      unfolding g
-      g-real = mate-real M R f f< real
 
       home : 4 * u + opposite g ≡ g
       unfolding u g

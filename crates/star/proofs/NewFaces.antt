@@ -26,7 +26,7 @@ use Rattle.cavity.specs.Cavity.{outer, inSet, visible, coplanar}
 use Rattle.star.specs.Star.{kept?, newCount, keptNumber, madeNumber, oldAcross, starAcross, madeAcross, turnFace, star}
 use Rattle.cavity.specs.Starlike.{Starlike}
 use Rattle.star.proofs.Cross.{Valid, OnEdge, state-eq}
-use Rattle.star.proofs.Turn.{turn-valid, turn-ends, turn-back, turn-edge, turn-fuel, turned}
+use Rattle.star.proofs.Turn.{turn-valid, turn-ends, turn-back, turn-edge, turned}
 use Rattle.star.proofs.Edge.{edgeVolume, walk-volume}
 use Rattle.cavity.proofs.Tests.{visible-of, Coplanar, coplanar-of, outer-yes}
 use Rattle.star.proofs.Star.{Fits, kept-new<, made<, kept-corner, kept-across, made-across, made-apex, made-other, kept-position, made-position}
@@ -409,11 +409,6 @@ module _ {X Y Z pc cc np n : ℕ} {t : Tables} (M : IsMesh X Y Z pc cc np n t) {
 
       here : across t′ (4 * mn f + j) ≡ starAcross t n p s g
       here = across-star f f< v j j< d ∙ ap (starAcross t n p s) round
-
-      -- any fuel of n or more gives the same turn
-      pub turn-any : (m : ℕ) → n ≤ m → outFace (turn (corner t) (across t) (mate t) (inSet s) m record { cell = cellOf f; entry = opposite f; exit = j }) ≡ turnFace t n s f j
-      unfolding turnFace s₀
-      turn-any m h = ap outFace (turn-fuel (glued M R) inside s₀ v₀ start n enough m h)
 
       edge-star : visible t p s g ≡ true → Good X Y Z t′ (newCount t n p s) (4 * mn f + j)
       unfolding Good turnFace e s₀ g edgeVolume

@@ -12,7 +12,7 @@ use Rattle.mesh.proofs.Glued.{Glued}
 use Rattle.mesh.proofs.FaceNumbers.{face-cell}
 use Rattle.star.specs.Turn.{State, inFace, outFace, flip, cross, turn}
 use Rattle.cavity.specs.Cavity.{outer}
-use Rattle.star.proofs.Cross.{Valid, flip-valid, state-eq, cross-valid, cross-back, back-inner, cross-flip-cross, cross-inj, OnEdge, on-edge, flip-edge}
+use Rattle.star.proofs.Cross.{Valid, flip-valid, state-eq, cross-valid, cross-back, back-inner, cross-flip-cross, cross-inj, OnEdge, on-edge}
 
 module _ (corner : ℕ → ℕ → ℕ) (across mate : ℕ → ℕ) where
   -- k crossings, one after another
@@ -255,15 +255,5 @@ module _ {n : ℕ} {corner : ℕ → ℕ → ℕ} {across mate : ℕ → ℕ} (G
     pub turn-back : (k : ℕ) → n ≤ k → turn corner across mate S k (flip (turn corner across mate S m s)) ≡ flip s
     turn-back k h = turn-is (walk-back turned v) k (flip-valid turn-valid) fresh (omega (arith, steps<))
 
-    pub turn-fuel : (k : ℕ) → n ≤ k → turn corner across mate S k s ≡ turn corner across mate S m s
-    turn-fuel k h = turn-is turned k v stops (omega (arith, steps<))
-
     pub turn-edge : (p : ℕ) → OnEdge corner s p → OnEdge corner (turn corner across mate S m s) p
     turn-edge p o = walk-edge turned v p o
-
-    pub turn-edge-back : (p : ℕ) → OnEdge corner (turn corner across mate S m s) p → OnEdge corner s p
-    turn-edge-back p o = flip-edge (walk-edge (walk-back turned v) (flip-valid turn-valid) p (flip-edge o))
-
-    -- no state twice
-    pub turn-once : (a b : ℕ) → a ≤ steps → b ≤ steps → trail corner across mate a s ≡ trail corner across mate b s → a ≡ b
-    turn-once = once s v fresh steps (walk-trail turned)
