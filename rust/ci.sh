@@ -6,6 +6,7 @@ cd "$(dirname "$0")" || exit 1
 archive_dir=${GANTRY_ARCHIVE_DIR:-$PWD/../target/staticlib}
 include_dir=${GANTRY_INCLUDE_DIR:-$PWD/../include}
 compare=${CARGO_TARGET_DIR:-target}/release/compare
+replay=${CARGO_TARGET_DIR:-target}/release/replay
 log=$(mktemp)
 trap 'rm -f "$log"' EXIT
 failed=0
@@ -28,6 +29,15 @@ finds() {
     [ $? -eq 1 ] && grep -q '^difference: ' "$log"
 }
 
+# A history prints what is expected on the plain build and on the archive, and something else on the wrong build of its name.
+separates() {
+    local history=../examples/histories/$1 wrong
+    "$replay" --build plain "$history.calls" | diff "$history.txt" - || return 1
+    "$replay" --build archive "$history.calls" | diff "$history.txt" - || return 1
+    wrong=$("$replay" --build "$1" "$history.calls") || return 1
+    [ "$wrong" != "$(cat "$history.txt")" ]
+}
+
 if [ ! -f "$archive_dir/libgantry.a" ]; then
     echo "rust: no $archive_dir/libgantry.a: build it with 'rt staticlib gantry'"
     exit 1
@@ -43,6 +53,7 @@ for seed in 1 2 3 4; do
     step "plain and archive, 100,000 calls from seed $seed" "$compare" --build archive --seed "$seed" --calls 100000
 done
 for fault in zero-visible visibility-only lost-corners-only coplanar-keeps one-round one-at-a-time; do
+    step "history of $fault" separates "$fault"
     step "fault $fault is found" finds "$fault"
 done
 exit "$failed"

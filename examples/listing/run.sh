@@ -45,4 +45,4 @@ compare 65537_bytes "$work/65537" "$work/refused"
 compare no_bytes /dev/null "$work/refused"
 
 echo "listing: $compared compared, $differ differ"
-[ "$compared" -ge 19 ] && [ "$differ" -eq 0 ]
+[ "$compared" -ge 20 ] && [ "$differ" -eq 0 ]

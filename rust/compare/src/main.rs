@@ -2,7 +2,7 @@
 
 use std::process::ExitCode;
 
-use compare::{run, Builder, Plain, Tuned};
+use compare::{fault, named, run, Builder, Plain, Tuned};
 use plain::Fault;
 
 const USAGE: &str = "usage: compare [--seed N] [--calls N] [--build NAME] [--fault NAME]
@@ -34,29 +34,12 @@ fn options() -> Result<Options, String> {
         match word.as_str() {
             "--seed" => options.seed = number()?,
             "--calls" => options.calls = number()?,
-            "--build" => options.build = build(&value)?,
+            "--build" => options.build = named(&value)?,
             "--fault" => options.fault = fault(&value)?,
             _ => return Err(format!("{word}: unknown")),
         }
     }
     Ok(options)
-}
-
-fn build(name: &str) -> Result<Box<dyn Builder>, String> {
-    match name {
-        "tuned" => Ok(Box::new(Tuned)),
-        #[cfg(feature = "archive")]
-        "archive" => Ok(Box::new(compare::Archive)),
-        #[cfg(not(feature = "archive"))]
-        "archive" => Err("--build archive: compiled without '--features archive'".to_string()),
-        _ => Err(format!("--build {name}: not tuned or archive")),
-    }
-}
-
-fn fault(name: &str) -> Result<Fault, String> {
-    let found = Fault::ALL.into_iter().find(|fault| fault.name() == name);
-    let names = Fault::ALL.map(Fault::name).join(", ");
-    found.ok_or(format!("--fault {name}: not one of {names}"))
 }
 
 fn main() -> ExitCode {

@@ -27,7 +27,8 @@ pub fn listing(file: &[u8]) -> String {
     text
 }
 
-fn cells(mesh: Mesh, tables: &Owned) -> String {
+/// The box with its counts, then a line a cell: number, corners, neighbours, a dash for none.
+pub fn cells(mesh: Mesh, tables: &Owned) -> String {
     let Mesh {
         x,
         y,

@@ -10,7 +10,31 @@ pub use self::archive::Archive;
 pub use self::plain::Plain;
 pub use self::tuned::Tuned;
 
-use ::plain::{Inserted, Listed, Located, Mesh, Position, Read, Sphere, Started, Tables, Written};
+use ::plain::{
+    Fault, Inserted, Listed, Located, Mesh, Position, Read, Sphere, Started, Tables, Written,
+};
+
+/// The build with this name: plain, tuned, archive, or plain made wrong by the fault with this name.
+pub fn named(name: &str) -> Result<Box<dyn Builder>, String> {
+    match name {
+        "plain" => Ok(Box::new(Plain(Fault::None))),
+        "tuned" => Ok(Box::new(Tuned)),
+        #[cfg(feature = "archive")]
+        "archive" => Ok(Box::new(Archive)),
+        #[cfg(not(feature = "archive"))]
+        "archive" => Err("archive: compiled without '--features archive'".to_string()),
+        _ => match fault(name) {
+            Ok(fault) => Ok(Box::new(Plain(fault))),
+            Err(error) => Err(error + ", plain, tuned, archive"),
+        },
+    }
+}
+
+pub fn fault(name: &str) -> Result<Fault, String> {
+    let found = Fault::ALL.into_iter().find(|fault| fault.name() == name);
+    let names = Fault::ALL.map(Fault::name).join(", ");
+    found.ok_or(format!("{name}: not one of {names}"))
+}
 
 pub trait Builder {
     fn name(&self) -> String;

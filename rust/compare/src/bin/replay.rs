@@ -1,0 +1,37 @@
+//! replay [--build NAME] CALLS
+
+use std::process::ExitCode;
+
+use compare::{named, Script};
+
+const USAGE: &str = "usage: replay [--build NAME] CALLS
+Makes the calls of a file on the build named, plain, tuned or archive, or plain made wrong by a fault's name, and prints what it
+answers and leaves. The first line of the file is 'box X Y Z points P cells C', the others are 'sphere x y z' or
+'answers DIGITS x y z' with a digit a cell, 0 for no.";
+
+fn play() -> Result<String, String> {
+    let words: Vec<String> = std::env::args().skip(1).collect();
+    let words: Vec<&str> = words.iter().map(String::as_str).collect();
+    let (build, file) = match words[..] {
+        ["--build", name, file] => (name, file),
+        [file] if !file.starts_with('-') => ("plain", file),
+        _ => return Err(USAGE.to_string()),
+    };
+    let build = named(build)?;
+    let text = std::fs::read_to_string(file).map_err(|error| format!("{file}: {error}"))?;
+    let script = Script::parse(&text).map_err(|error| format!("{file}: {error}"))?;
+    Ok(script.play(build.as_ref()))
+}
+
+fn main() -> ExitCode {
+    match play() {
+        Ok(text) => {
+            print!("{text}");
+            ExitCode::SUCCESS
+        }
+        Err(message) => {
+            eprintln!("{message}");
+            ExitCode::from(2)
+        }
+    }
+}

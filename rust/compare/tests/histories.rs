@@ -1,0 +1,114 @@
+//! The histories of examples/histories, and what they leave, are those of the proved table in crates/pieces.
+
+use std::fmt::Write;
+
+use compare::{fault, named, Script};
+
+fn read(path: &str) -> String {
+    let path = format!("{}/../../{path}", env!("CARGO_MANIFEST_DIR"));
+    std::fs::read_to_string(&path).unwrap_or_else(|error| panic!("{path}: {error}"))
+}
+
+fn between<'a>(text: &'a str, from: &str, to: &str) -> &'a str {
+    let (_, rest) = text.split_once(from).expect(from);
+    rest.split_once(to).expect(to).0
+}
+
+fn numbers(text: &str) -> Vec<usize> {
+    let words = text.split(|c: char| !c.is_ascii_alphanumeric() && c != '-');
+    words.filter_map(|word| word.parse().ok()).collect()
+}
+
+fn words(numbers: &[usize]) -> String {
+    let words: Vec<String> = numbers.iter().map(usize::to_string).collect();
+    words.join(" ")
+}
+
+/// Names and records of the table's pieces.
+fn pieces(table: &str) -> Vec<(&str, &str)> {
+    let pieces = table.split("unfoldable pub ").filter_map(|piece| {
+        let (name, rest) = piece.split_once("-history : Piece")?;
+        Some((name, between(rest, "record {", "\n    }")))
+    });
+    pieces.collect()
+}
+
+fn calls(piece: &str) -> String {
+    let room = numbers(between(piece, "room =", ";"))[0];
+    let mut text = format!("box 4 4 4 points 11 cells {room}\n");
+    let yes = |cells: usize| "1".repeat(cells);
+    for call in numbers(between(piece, "before =", ";")).chunks(4) {
+        let (cells, node) = (call[0], &call[1..]);
+        let _ = writeln!(text, "answers {} {}", yes(cells), words(node));
+    }
+    let answers = between(piece, "answers =", ";");
+    let kind = match numbers(answers)[..] {
+        [cells, 1] => format!("answers {}", yes(cells)),
+        _ => answers.trim().to_string(),
+    };
+    let node = numbers(between(piece, "node =", ";"));
+    let _ = writeln!(text, "{kind} {}", words(&node));
+    text
+}
+
+/// The last insertion's report, and the cells.
+fn left(piece: &str) -> String {
+    let counts = numbers(between(piece, "counts", ")"));
+    let report = numbers(between(piece, "record {", "}"));
+    let mut text = format!(
+        "point {} before {} after {} made {} least {}\nbox 4 4 4 points {} cells {}\n",
+        report[0], report[1], report[2], report[3], report[4], counts[0], counts[1]
+    );
+    let cells = between(piece, "cells =", "[]").replace("none", "-");
+    for (number, cell) in cells.split("cell ").skip(1).enumerate() {
+        let words: Vec<&str> = cell.split_whitespace().take(8).collect();
+        let _ = writeln!(text, "{number} {}", words.join(" "));
+    }
+    text
+}
+
+#[test]
+fn they_are_the_proved_ones() {
+    let table = read("crates/pieces/specs/Separating.antt");
+    let pieces = pieces(&table);
+    assert_eq!(pieces.len(), plain::Fault::ALL.len());
+    for (name, piece) in pieces {
+        assert_eq!(
+            read(&format!("examples/histories/{name}.calls")),
+            calls(piece)
+        );
+        let expected = read(&format!("examples/histories/{name}.txt"));
+        let lines: Vec<&str> = expected.split_inclusive('\n').collect();
+        let before = numbers(between(piece, "before =", ";")).len() / 4;
+        assert_eq!(lines[before..].concat(), left(piece), "{name}");
+    }
+}
+
+#[test]
+fn each_tells_its_wrong_build_apart() {
+    for wrong in plain::Fault::ALL {
+        let name = wrong.name();
+        assert_eq!(fault(name), Ok(wrong));
+        let script = Script::parse(&read(&format!("examples/histories/{name}.calls"))).unwrap();
+        let expected = read(&format!("examples/histories/{name}.txt"));
+        for build in ["plain", "tuned"] {
+            assert_eq!(script.play(named(build).unwrap().as_ref()), expected);
+        }
+        assert_ne!(script.play(named(name).unwrap().as_ref()), expected);
+    }
+}
+
+#[test]
+fn a_bad_line_is_named() {
+    let after = |calls: &str| {
+        let text = format!("box 4 4 4 points 11 cells 18\n{calls}");
+        Script::parse(&text).unwrap_err()
+    };
+    assert!(Script::parse("")
+        .unwrap_err()
+        .starts_with("line 1: not 'box"));
+    assert_eq!(after("sphere 1 2"), "line 2: not three numbers");
+    assert_eq!(after("sphere 1 2 3\nsphere 1 2 x"), "line 3: x: no number");
+    assert_eq!(after("answers 12 1 2 3"), "line 2: 12: not 0s and 1s");
+    assert!(after("insert 1 2 3").starts_with("line 2: not 'sphere"));
+}
