@@ -248,3 +248,8 @@ module _ {ps cs ns : List ℕ} {np n : ℕ} (M : MeshOf (tables ps cs ns) np n) 
 
 pub scan-ends : {a : Answers} {t : Tables} {p : Position} {n c : ℕ} {st li : List ℕ} {g : Gathered} → c ≡ n → Scanned a t p n c st li g → Scanned a t p n n st li g
 scan-ends {a} {t} {p} {n} {c} {st} {li} {g} e S = subst (λ k. Scanned a t p n k st li g) e S
+
+pub scanned-same : {a : Answers} {t : Tables} {p : Position} {n c : ℕ} {st st′ li li′ : List ℕ} {g g′ : Gathered} → st′ ≡ st → li′ ≡ li → g′ ≡ g →
+    Scanned a t p n c st li g → Scanned a t p n c st′ li′ g′
+scanned-same {a} {t} {p} {n} {c} {st} {st′} {li} {li′} {g} {g′} es el eg S =
+    subst (λ s. Scanned a t p n c s li′ g′) (sym es) (subst (λ l. Scanned a t p n c st l g′) (sym el) (subst (Scanned a t p n c st li) (sym eg) S))

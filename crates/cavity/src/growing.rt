@@ -10,6 +10,7 @@ use crate::Gathered;
 use crate::Node;
 use crate::answering::answer_of;
 use locate::holding::cell_holds;
+use locate::holding::shared_bits;
 use mesh::tables::four_at;
 
 fn with_cell(g: Gathered, c: usize, x: f64) -> Gathered
@@ -63,21 +64,19 @@ fn try_base(
     neighbours: &[u16],
     answers: &[u8],
     node: Node,
-    codes: &[u8],
     c: usize,
     state: &mut [u8],
     list: &mut [u16],
     g: Gathered,
 ) -> Gathered
-    requires { ⌜ Ready (now points) (now corners) (now neighbours) (now answers) node × (now codes ≡ sideCodes (now points) (node .points) (node .position))
-        × (c < node .cells)
+    requires { ⌜ Ready (now points) (now corners) (now neighbours) (now answers) node × (c < node .cells)
         × Scanned (answersOf (node .handed) (now answers)) (tables (now points) (now corners) (now neighbours)) (node .position) (node .cells) c
         (now state) (now list) g ⌝ }
     ensures { λ r. ⌜ Scanned (answersOf (node .handed) (now (answers .entry))) (tables (now (points .entry)) (now (corners .entry)) (now (neighbours .entry)))
         (node .position) (node .cells) (c + 1) (now (state .exit)) (now (list .exit)) r ⌝ }
 {
     let q = node.position;
-    if !cell_holds(points, codes, four_at(corners, c), q) {
+    if !cell_holds(points, four_at(corners, c), q) {
         return g;
     }
     let a = answer_of(points, corners, neighbours, answers, node, c);
@@ -108,18 +107,19 @@ pub fn find_base(
     };
     let mut c: usize = 0;
     while c < n {
-        g = try_base(
-            points,
-            corners,
-            neighbours,
-            answers,
-            node,
-            codes,
-            c,
-            state,
-            list,
-            g,
-        );
+        if shared_bits(codes, four_at(corners, c)) == 0 {
+            g = try_base(
+                points,
+                corners,
+                neighbours,
+                answers,
+                node,
+                c,
+                state,
+                list,
+                g,
+            );
+        }
         c += 1;
     }
     g

@@ -32,7 +32,7 @@ use Rattle.mesh.specs.Inner.{tables, fourAt, Solid}
 use Rattle.mesh.proofs.FaceNumbers.{face-cell, face-opposite}
 use Rattle.mesh.proofs.Numbers.{byte≤, four-entry, four-corner, four-volume}
 use Rattle.mesh.proofs.Held.{cramer}
-use Rattle.locate.specs.Inner.{axisCode, sideCode, sideCodes, sharedBits, holdsFour, Coded}
+use Rattle.locate.specs.Inner.{axisCode, sideCode, sideCodes, sharedBits, holdsFour, Testable, Coded}
 use Rattle.locate.specs.Locate.{holds}
 
 -- ---- a cell that holds q has q in its bounding box
@@ -260,21 +260,28 @@ code-at ps np q h v l = tabulate-at 1024 (λ v. cond (ltb v np) (sideCode (point
 
 -- ---- a cell of solid tables
 
-pub coded : (ps cs : List ℕ) (np n : ℕ) (q : Position) → Solid ps cs np n → InRange q → {codes : List ℕ} → codes ≡ sideCodes ps np q →
-    (c : ℕ) → c < n → {k : List ℕ} → k ≡ fourAt cs c → Coded ps codes k q
-coded ps cs np n q S hq {codes} ec c hc {k} ek =
-    subst (λ k. Coded ps codes k q) (sym ek) (subst (λ codes. Coded ps codes (fourAt cs c) q) (sym ec)
-    record {
-      has = λ i h. record { few = omega (arith, S .placed .points-few, corner< i h); fits = omega (arith, S .placed .points-fit, corner< i h) };
-      in-range = λ i h. S .placed .in-range (getD (fourAt cs c) i 0) (corner< i h);
-      code< = λ i h. subst (λ m. getD (fourAt cs c) i 0 < m) (sym (codes-length ps np q)) (omega (arith, S .placed .points-few, corner< i h));
-      code = λ i h. code-at ps np q (S .placed .points-few) (getD (fourAt cs c) i 0) (corner< i h);
-      position = hq;
-      positive = subst (λ z. pos 0 <ℤ z) (sym (four-volume ps cs c)) (S .positive c hc);
-    })
-  where
-    corner< : (i : ℕ) → i < 4 → getD (fourAt cs c) i 0 < np
-    corner< i h = subst (λ m. m < np) (sym (four-entry cs c i h)) (S .below (4 * c + i) (omega arith))
+module _ (ps cs : List ℕ) (np n : ℕ) (q : Position) (S : Solid ps cs np n) (hq : InRange q) (c : ℕ) (c< : c < n) where
+  corner< : (i : ℕ) → i < 4 → getD (fourAt cs c) i 0 < np
+  corner< i h = subst (λ m. m < np) (sym (four-entry cs c i h)) (S .below (4 * c + i) (omega arith))
+
+  pub testable : {k : List ℕ} → k ≡ fourAt cs c → Testable ps k q
+  testable ek =
+      subst (λ k. Testable ps k q) (sym ek)
+      record {
+        has = λ i h. record { few = omega (arith, S .placed .points-few, corner< i h); fits = omega (arith, S .placed .points-fit, corner< i h) };
+        in-range = λ i h. S .placed .in-range (getD (fourAt cs c) i 0) (corner< i h);
+        position = hq;
+      }
+
+  pub coded : {codes k : List ℕ} → codes ≡ sideCodes ps np q → k ≡ fourAt cs c → Coded ps codes k q
+  coded {codes} ec ek =
+      subst (λ k. Coded ps codes k q) (sym ek) (subst (λ codes. Coded ps codes (fourAt cs c) q) (sym ec)
+      record {
+        test = testable refl;
+        code< = λ i h. subst (λ m. getD (fourAt cs c) i 0 < m) (sym (codes-length ps np q)) (omega (arith, S .placed .points-few, corner< i h));
+        code = λ i h. code-at ps np q (S .placed .points-few) (getD (fourAt cs c) i 0) (corner< i h);
+        positive = subst (λ z. pos 0 <ℤ z) (sym (four-volume ps cs c)) (S .positive c c<);
+      })
 
 -- the volumes that a cell's four corners give are its sides
 pub side-of-four : (ps cs ns : List ℕ) (c i : ℕ) (q : Position) → i < 4 →

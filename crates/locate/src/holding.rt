@@ -1,7 +1,7 @@
 ghost use mathlib.Core.Path.{_≡_};
 ghost use Prim.Native.Nat.{_≤_, _<_, _*_};
 ghost use lib.ListN.{length, getD};
-ghost use Rattle.locate.specs.Inner.{axisCode, sideCode, sideCodes, sharedBits, holdsFour, Coded};
+ghost use Rattle.locate.specs.Inner.{axisCode, sideCode, sideCodes, sharedBits, holdsFour, Testable};
 use geometry::Position;
 use geometry::volume::volumes_at;
 use mesh::tables::point_at;
@@ -32,7 +32,8 @@ pub fn side_codes(points: &[u32], np: usize, q: Position) -> [u8; 1024]
     codes
 }
 
-fn shared_bits(codes: &[u8], k: [u16; 4]) -> u8
+// Where a cell's corners share a bit, all are beyond q on one side of an axis: it does not hold q, and no volume is worked out.
+pub fn shared_bits(codes: &[u8], k: [u16; 4]) -> u8
     requires { ⌜ (getD k 0 0 < length (now codes)) × (getD k 1 0 < length (now codes))
         × (getD k 2 0 < length (now codes)) × (getD k 3 0 < length (now codes)) ⌝ }
     ensures { λ r. ⌜ r ≡ sharedBits (now (codes .entry)) k ⌝ }
@@ -40,14 +41,10 @@ fn shared_bits(codes: &[u8], k: [u16; 4]) -> u8
     codes[k[0] as usize] & codes[k[1] as usize] & codes[k[2] as usize] & codes[k[3] as usize]
 }
 
-// Whether a cell holds q. Where all its corners are beyond q on one side of an axis, it does not, and no volume is worked out.
-pub fn cell_holds(points: &[u32], codes: &[u8], k: [u16; 4], q: Position) -> bool
-    requires { ⌜ Coded (now points) (now codes) k q ⌝ }
+pub fn cell_holds(points: &[u32], k: [u16; 4], q: Position) -> bool
+    requires { ⌜ Testable (now points) k q ⌝ }
     ensures { λ r. ⌜ r ≡ holdsFour (now (points .entry)) k q ⌝ }
 {
-    if shared_bits(codes, k) != 0 {
-        return false;
-    }
     let v = volumes_at(
         point_at(points, k[0] as usize),
         point_at(points, k[1] as usize),

@@ -9,6 +9,7 @@ ghost use Rattle.mesh.specs.Inner.{tables, Solid};
 ghost use Rattle.locate.specs.Locate.{holds, locateCall};
 use crate::Located;
 use crate::holding::cell_holds;
+use crate::holding::shared_bits;
 use crate::holding::side_codes;
 use geometry::Position;
 use geometry::volume::in_box;
@@ -25,8 +26,11 @@ fn first_holder(points: &[u32], corners: &[u16], np: usize, n: usize, q: Positio
     let codes = side_codes(points, np, q);
     let mut c: usize = 0;
     while c < n {
-        if cell_holds(points, &codes, four_at(corners, c), q) {
-            return c;
+        let k = four_at(corners, c);
+        if shared_bits(&codes, k) == 0 {
+            if cell_holds(points, k, q) {
+                return c;
+            }
         }
         c += 1;
     }

@@ -8,7 +8,7 @@ use borrow.Author.Needs.{needs}
 use Rattle.arith.proofs.Machine.{back}
 use Rattle.geometry.specs.Volume.{InRange, volume, replaced}
 use Rattle.mesh.specs.Tables.{pointIn}
-use Rattle.locate.proofs.Codes.{apart, volumeAt, measured, fourth-fails, third-fails, second-fails, first-decides}
+use Rattle.locate.proofs.Codes.{volumeAt, measured, fourth-fails, third-fails, second-fails, first-decides}
 use Rattle.locate.proofs.holding.cell_holds.Statement.{statement}
 use Rattle.locate.proofs.holding.cell_holds.Tie as tie
 
@@ -16,23 +16,17 @@ abbrev volumes : tie.After-volumes-at → ℕ → ℤ
 volumes c i = back w64 (volumeAt (c .volumes-at .result) i)
 
 are : (c : tie.After-volumes-at) →
-    let a = c .before .before .before .before .before .before .before .before .before .args in
-    (i : ℕ) → i < 4 → volumes c i ≡ volume (replaced (λ j. pointIn (a .points .now) (getD (a .t3) j 0)) i (a .q))
+    let a = c .before .before .before .before .before .before .args in
+    (i : ℕ) → i < 4 → volumes c i ≡ volume (replaced (λ j. pointIn (a .points .now) (getD (a .t2) j 0)) i (a .q))
 are c =
     let p = c .before in
-    let s = p .before .before .before .before .before .before .before .before in
-    measured (s .args .points .now) (s .args .t3) (s .args .q)
+    let s = p .before .before .before .before .before in
+    measured (s .args .points .now) (s .args .t2) (s .args .q)
     (p .before .before .before .point-at .ensures) (p .before .before .point-at2 .ensures) (p .before .point-at3 .ensures) (p .point-at4 .ensures)
     (c .volumes-at .ensures) (s .pre .in-range) (s .pre .position)
 
-abbrev start : tie.Else1 → tie.Start
-start c = c .before .before .before .before
-
-shared-bits-requires : tie.Need-shared-bits-requires
-shared-bits-requires c κs = let p = c .before .before .pre in (p .code< 0 (omega arith), p .code< 1 (omega arith), p .code< 2 (omega arith), p .code< 3 (omega arith))
-
-returns : tie.Need-returns
-returns c = sym (apart _ _ _ _ (c .before .before .before .before .pre) (λ e. c .if1 .taken (c .before .shared-bits .ensures ∙ e)))
+abbrev start : tie.After-shared-slice-known → tie.Start
+start c = c .before
 
 array-read-point-at : tie.Need-array-read-point-at
 array-read-point-at c = search needs
@@ -81,32 +75,30 @@ volumes-at-requires c κs =
       s .pre .position,
     )
 
+returns : tie.Need-returns
+returns c =
+    let v = c .before .before .before .before .before in
+    fourth-fails _ _ _ (volumes v) (are v) (c .if1 .taken)
+
 returns-2 : tie.Need-returns-2
 returns-2 c =
-    let v = c .before .before .before .before .before in
-    fourth-fails _ _ _ (volumes v) (are v) (c .if2 .taken)
+    let v = c .before .before .before .before .before .before in
+    third-fails _ _ _ (volumes v) (are v) (c .before .if1 .left) (c .if2 .taken)
 
 returns-3 : tie.Need-returns-3
 returns-3 c =
-    let v = c .before .before .before .before .before .before in
-    third-fails _ _ _ (volumes v) (are v) (c .before .if2 .left) (c .if3 .taken)
+    let v = c .before .before .before .before .before .before .before in
+    second-fails _ _ _ (volumes v) (are v) (c .before .before .if1 .left) (c .before .if2 .left) (c .if3 .taken)
 
 returns-4 : tie.Need-returns-4
 returns-4 c =
     let v = c .before .before .before .before .before .before .before in
-    second-fails _ _ _ (volumes v) (are v) (c .before .before .if2 .left) (c .before .if3 .left) (c .if4 .taken)
-
-returns-5 : tie.Need-returns-5
-returns-5 c =
-    let v = c .before .before .before .before .before .before .before in
-    first-decides _ _ _ (volumes v) (are v) (c .before .before .if2 .left) (c .before .if3 .left) (c .if4 .left)
+    first-decides _ _ _ (volumes v) (are v) (c .before .before .if1 .left) (c .before .if2 .left) (c .if3 .left)
 
 pub cell-holds-spec : {M : Type 1} → statement M
 cell-holds-spec =
     tie.close
     (tie.spec
-    shared-bits-requires
-    returns
     array-read-point-at
     cast-point-at
     point-at-requires
@@ -120,7 +112,7 @@ cell-holds-spec =
     cast-point-at-4
     point-at-requires-4
     volumes-at-requires
+    returns
     returns-2
     returns-3
-    returns-4
-    returns-5)
+    returns-4)

@@ -1,4 +1,5 @@
 use mathlib.Core.List.{[]}
+use mathlib.Core.Logic.{⊎-elim}
 use Prim.Native.Nat.{ℕ, _-_, _≤_, _<_}
 use native.Mathlib.Omega.{arith}
 use mathlib.Core.Bool.{false}
@@ -8,8 +9,8 @@ use borrow.Author.Needs.{needs}
 use Rattle.arith.proofs.Tables.{below-more, first-is, first-none}
 use Rattle.mesh.specs.Inner.{tables}
 use Rattle.locate.specs.Locate.{holds}
-use Rattle.locate.specs.Inner.{holdsFour}
-use Rattle.locate.proofs.Codes.{codes-length, coded, holds-is}
+use Rattle.locate.specs.Inner.{holdsFour, Coded}
+use Rattle.locate.proofs.Codes.{codes-length, coded, apart, holds-is}
 use Rattle.locate.proofs.locating.first_holder.Statement.{statement}
 use Rattle.locate.proofs.locating.first_holder.Tie as tie
 
@@ -19,11 +20,18 @@ Inv-loop points corners np n q codes c₀ c = (c ≤ n) × ((k : ℕ) → k < c 
 abbrev μ-loop : tie.MeasureT-loop
 μ-loop points corners np n q codes c₀ c = n - c
 
-tested : (c : tie.After-cell-holds Inv-loop μ-loop) → let a = c .before .before .before .before .before .before .before .before .args in
-    c .cell-holds .result ≡ holds (tables (a .points .now) (a .corners .now) []) (a .q) (c .before .before .before .before .loop .c)
-tested c =
+-- what the codes and corners of the loop's cell are
+abbrev cell : (c : tie.After-codes Inv-loop μ-loop) → let s = c .before .before .before .before .before .before .before in
+    Coded (s .args .points .now) (c .before .before .before .before .side-codes .result) (c .before .four-at .result) (s .args .q)
+cell c =
+    let s = c .before .before .before .before .before .before .before in
+    coded _ _ _ _ _ (s .pre .0) (s .pre .1) _ (omega arith) (c .before .before .before .before .side-codes .ensures) (c .before .four-at .ensures)
+
+is-held : (c : tie.After-shared-bits Inv-loop μ-loop) → let a = c .before .before .before .before .before .before .before .before .args in
+    holdsFour (a .points .now) (c .before .before .four-at .result) (a .q) ≡ holds (tables (a .points .now) (a .corners .now) []) (a .q) (c .before .before .before .before .loop .c)
+is-held c =
     let a = c .before .before .before .before .before .before .before .before .args in
-    c .cell-holds .ensures ∙ (ap (λ k. holdsFour (a .points .now) k (a .q)) (c .before .four-at .ensures) ∙ holds-is (a .points .now) (a .corners .now) [] _ (a .q))
+    ap (λ k. holdsFour (a .points .now) k (a .q)) (c .before .before .four-at .ensures) ∙ holds-is (a .points .now) (a .corners .now) [] _ (a .q)
 
 side-codes-requires : tie.Need-side-codes-requires Inv-loop μ-loop
 side-codes-requires c κs = let p = c .before .before .pre .0 .placed in (p .points-few, p .points-fit)
@@ -31,21 +39,33 @@ side-codes-requires c κs = let p = c .before .before .pre .0 .placed in (p .poi
 loop-holds : tie.Need-loop-holds Inv-loop μ-loop
 loop-holds c = (omega arith, λ k l. absurd (omega arith))
 
-slice-aggregate-cell-holds : tie.Need-slice-aggregate-cell-holds Inv-loop μ-loop
-slice-aggregate-cell-holds c = sym (ap length (c .before .before .before .side-codes .ensures) ∙ codes-length _ _ _)
-
 four-at-requires : tie.Need-four-at-requires Inv-loop μ-loop
 four-at-requires c κs = search needs
 
+slice-aggregate-shared-bits : tie.Need-slice-aggregate-shared-bits Inv-loop μ-loop
+slice-aggregate-shared-bits c = sym (ap length (c .before .before .before .before .side-codes .ensures) ∙ codes-length _ _ _)
+
+shared-bits-requires : tie.Need-shared-bits-requires Inv-loop μ-loop
+shared-bits-requires c κs = let k = cell c in (k .code< 0 (omega arith), k .code< 1 (omega arith), k .code< 2 (omega arith), k .code< 3 (omega arith))
+
 cell-holds-requires : tie.Need-cell-holds-requires Inv-loop μ-loop
-cell-holds-requires c κs =
-    let s = c .before .before .before .before .before .before .before in
-    coded _ _ _ _ _ (s .pre .0) (s .pre .1) (c .before .before .before .before .side-codes .ensures) _ (omega arith) (c .four-at .ensures)
+cell-holds-requires c κs = cell (c .before .before) .test
 
 returns : tie.Need-returns Inv-loop μ-loop
 returns c =
-    let l = c .before .before .before .before .before .loop in
-    sym (first-is _ _ (l .c) (omega arith) (sym (tested (c .before)) ∙ c .if1 .taken) (l .inv .1))
+    let b = c .before .before .before in
+    let l = b .before .before .before .before .loop in
+    sym (first-is _ _ (l .c) (omega arith) (sym (c .before .cell-holds .ensures ∙ is-held b) ∙ c .if2 .taken) (l .inv .1))
+
+-- neither way out of the tests does the cell hold q
+not-held : (c : tie.Joined1 Inv-loop μ-loop) → let a = c .before .before .before .before .before .before .before .before .before .args in
+    holds (tables (a .points .now) (a .corners .now) []) (a .q) (c .before .before .before .before .before .loop .c) ≡ false
+not-held c =
+    let b = c .before in
+    ⊎-elim
+    (λ w. sym (w .1 .ensures ∙ is-held b) ∙ w .2 .left)
+    (λ e. sym (is-held b) ∙ apart _ _ _ _ (cell (b .before)) (λ z. e .left (b .shared-bits .ensures ∙ z)))
+    (c .if1 .came)
 
 add-c : tie.Need-add-c Inv-loop μ-loop
 add-c c = omega arith
@@ -56,7 +76,7 @@ loop-less c = omega arith
 loop-again : tie.Need-loop-again Inv-loop μ-loop
 loop-again c =
     let l = c .before .before .before .before .before .loop in
-    (omega arith, below-more _ (l .c) (l .inv .1) (sym (tested (c .before)) ∙ c .if1 .left))
+    (omega arith, below-more _ (l .c) (l .inv .1) (not-held c))
 
 returns-2 : tie.Need-returns-2 Inv-loop μ-loop
 returns-2 c =
@@ -71,8 +91,9 @@ first-holder-spec =
     μ-loop
     side-codes-requires
     loop-holds
-    slice-aggregate-cell-holds
     four-at-requires
+    slice-aggregate-shared-bits
+    shared-bits-requires
     cell-holds-requires
     returns
     add-c
