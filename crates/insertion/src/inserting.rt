@@ -109,7 +109,7 @@ fn star_cavity(
         list,
         after,
         faces,
-        &mut numbers,
+        &numbers,
         made,
     );
     put_point(points, np, q);

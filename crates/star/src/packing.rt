@@ -10,31 +10,35 @@ use mesh::Cell;
 use mesh::tables::load;
 use mesh::tables::store;
 
-// The new cells' numbers: each comes down by as many cells as are dropped.
-fn number_new(numbers: &mut [u16], n: usize, made: usize, size: usize)
+// Every cell's number after: each new one comes down by as many cells as are dropped. None has its place too.
+fn packed_numbers(numbers: &[u16], n: usize, made: usize, size: usize) -> [u16; 8192]
     requires { ⌜ (length (now numbers) ≡ 4096) × (n + made ≤ 4096) × (size ≤ n) ⌝ }
-    ensures { λ _. ⌜ ((c : ℕ) → c < n + made → getD (now (numbers .exit)) c 0 ≡ packNumber n size (now (numbers .entry)) c) ⌝ }
+    ensures { λ r. ⌜ ((c : ℕ) → c < n + made → getD r c 0 ≡ packNumber n size (now (numbers .entry)) c) × (getD r 8191 0 ≡ none) ⌝ }
 {
-    let end = n + made;
-    let mut c = n;
-    while c < end {
-        numbers[c] = (c - size) as u16;
+    let mut packed = [65535u16; 8192];
+    let mut c: usize = 0;
+    while c < n {
+        packed[c] = numbers[c];
         c += 1;
     }
+    let end = n + made;
+    while c < end {
+        packed[c] = (c - size) as u16;
+        c += 1;
+    }
+    packed
 }
 
-fn renumber(numbers: &[u16], e: u16) -> u16
-    requires { ⌜ (e ≢ none → e < length (now numbers)) ⌝ }
+// None comes to place 8191, which no cell has: it needs no test.
+fn renumber(numbers: &[u16; 8192], e: u16) -> u16
+    requires { ⌜ (e ≢ none → e < 4096) × (getD (now numbers) 8191 0 ≡ none) ⌝ }
     ensures { λ r. ⌜ r ≡ renumbered (λ c. getD (now (numbers .entry)) c 0) e ⌝ }
 {
-    if e == 65535 {
-        return 65535;
-    }
-    numbers[e as usize]
+    numbers[(e % 8192) as usize]
 }
 
-fn renumber_four(numbers: &[u16], a: [u16; 4]) -> [u16; 4]
-    requires { ⌜ ((i : ℕ) → i < 4 → getD a i 0 ≢ none → getD a i 0 < length (now numbers)) ⌝ }
+fn renumber_four(numbers: &[u16; 8192], a: [u16; 4]) -> [u16; 4]
+    requires { ⌜ ((i : ℕ) → i < 4 → getD a i 0 ≢ none → getD a i 0 < 4096) × (getD (now numbers) 8191 0 ≡ none) ⌝ }
     ensures { λ r. ⌜ r ≡ renumberedFour (λ c. getD (now (numbers .entry)) c 0) a ⌝ }
 {
     [
@@ -45,8 +49,8 @@ fn renumber_four(numbers: &[u16], a: [u16; 4]) -> [u16; 4]
     ]
 }
 
-fn renumber_cell(numbers: &[u16], cell: Cell) -> Cell
-    requires { ⌜ ((i : ℕ) → i < 4 → getD (cell .neighbours) i 0 ≢ none → getD (cell .neighbours) i 0 < length (now numbers)) ⌝ }
+fn renumber_cell(numbers: &[u16; 8192], cell: Cell) -> Cell
+    requires { ⌜ ((i : ℕ) → i < 4 → getD (cell .neighbours) i 0 ≢ none → getD (cell .neighbours) i 0 < 4096) × (getD (now numbers) 8191 0 ≡ none) ⌝ }
     ensures { λ r. ⌜ r ≡ record { corners = cell .corners; neighbours = renumberedFour (λ c. getD (now (numbers .entry)) c 0) (cell .neighbours) } ⌝ }
 {
     let v = cell.corners;
@@ -73,10 +77,10 @@ fn move_cell(
     neighbours: &mut [u16],
     n: usize,
     state: &[u8],
-    numbers: &[u16],
+    numbers: &[u16; 8192],
     c: usize,
 )
-    requires { ⌜ HasCell c (now corners) × HasCell c (now neighbours) × (length (now state) ≡ 4096) × (length (now numbers) ≡ 4096)
+    requires { ⌜ HasCell c (now corners) × HasCell c (now neighbours) × (length (now state) ≡ 4096) × (getD (now numbers) 8191 0 ≡ none)
         × (stays n (now state) c ≡ true → getD (now numbers) c 0 ≤ c)
         × ((i : ℕ) → stays n (now state) c ≡ true → i < 4 → entryAt (now neighbours) c i ≢ none → entryAt (now neighbours) c i < 4096) ⌝ }
     ensures { λ _. ⌜ (now (corners .exit) ≡ cond (stays n (now (state .entry)) c)
@@ -100,9 +104,9 @@ fn move_cells(
     n: usize,
     end: usize,
     state: &[u8],
-    numbers: &[u16],
+    numbers: &[u16; 8192],
 )
-    requires { ⌜ Packing n end (now state) (λ c. getD (now numbers) c 0) (now corners) (now neighbours) × (length (now numbers) ≡ 4096) ⌝ }
+    requires { ⌜ Packing n end (now state) (λ c. getD (now numbers) c 0) (now corners) (now neighbours) × (getD (now numbers) 8191 0 ≡ none) ⌝ }
     ensures { λ _. ⌜ Moved n end (now (state .entry)) (λ c. getD (now (numbers .entry)) c 0)
         (now (corners .entry)) (now (neighbours .entry)) (now (corners .exit)) (now (neighbours .exit)) ⌝ }
 {
@@ -131,7 +135,7 @@ pub fn pack(
     n: usize,
     state: &[u8],
     size: usize,
-    numbers: &mut [u16],
+    numbers: &[u16],
     made: usize,
 )
     requires { ⌜ Packing n (n + made) (now state) (packNumber n size (now numbers)) (now corners) (now neighbours)
@@ -139,9 +143,9 @@ pub fn pack(
     ensures { λ _. ⌜ Packed n (n + made) size (now (state .entry)) (packNumber n size (now (numbers .entry)))
         (now (corners .entry)) (now (neighbours .entry)) (now (corners .exit)) (now (neighbours .exit)) ⌝ }
 {
-    number_new(numbers, n, made, size);
+    let packed = packed_numbers(numbers, n, made, size);
     let end = n + made;
-    move_cells(corners, neighbours, n, end, state, numbers);
+    move_cells(corners, neighbours, n, end, state, &packed);
     let from = 4 * (end - size);
     zero(corners, from, 4 * end);
     zero(neighbours, from, 4 * end);

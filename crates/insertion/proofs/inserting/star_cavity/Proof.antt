@@ -44,11 +44,13 @@ replace-cavity-requires c κs =
     to-replace (s .pre .0) (s .pre .2) (s .pre .1) (c .before .before .before .before .before .before .before .number-cells .ensures .0) (c .before .before .before .before .before .cell-capacity .ensures) (c .before .before .before .before .if1 .left) (c .before .before .before .before .before .before .before .number-cells .kept .1 .1 .1 .1 .1 .1 .1 .0) (c .before .before .before .before .before .before .before .number-cells .ensures .1)
 
 put-point-requires : tie.Need-put-point-requires
-put-point-requires c κs = point-room (c .before .before .before .before .before .before .before .before .before .before .before .before .before .before .before .before .before .before .before .before .before .before .before .before .before .before .before .pre .0)
+put-point-requires c κs = point-room (c .before .before .before .before .before .before .before .before .before .before .before .before .before .before .before .before .before .before .before .before .before .before .before .before .before .before .pre .0)
 
 accepted-requires : tie.Need-accepted-requires
 unfolding cellCapacity
-accepted-requires c κs = let s = c .before .before .before .before .before .before .before .before .before .before .before .before .before .before .before .before .before .before .before .before .before .before .before .before .before .before .before .before .before .before in accepted-asks (s .pre .0) (s .pre .2) (s .pre .1) (c .before .before .before .before .before .before .before .before .before .before .before .before .before .before .before .before .before .number-cells .ensures .0) (c .before .before .before .before .before .before .before .before .before .before .before .before .before .before .before .cell-capacity .ensures) (c .before .before .before .before .before .before .before .before .before .before .before .before .before .before .if1 .left)
+accepted-requires c κs =
+    let s = c .before .before .before .before .before .before .before .before .before .before .before .before .before .before .before .before .before .before .before .before .before .before .before .before .before .before .before .before .before in
+    accepted-asks (s .pre .0) (s .pre .2) (s .pre .1) (c .before .before .before .before .before .before .before .before .before .before .before .before .before .before .before .before .number-cells .ensures .0) (c .before .before .before .before .before .before .before .before .before .before .before .before .before .before .cell-capacity .ensures) (c .before .before .before .before .before .before .before .before .before .before .before .before .before .if1 .left)
 
 same-length-4 : tie.Need-same-length-4
 same-length-4 c = search needs
@@ -62,9 +64,9 @@ same-length-6 c = search needs
 returns-2 : tie.Need-returns-2
 unfolding cellCapacity
 returns-2 c =
-    let s = c .before .before .before .before .before .before .before .before .before .before .before .before .before .before .before .before .before .before .before .before .before .before .before .before .before .before .before .before .before .before .before in
-    let r = c .before .before .before .before .before .before .before .before .before .before .replace-cavity .ensures in
-    accepted-leaves (s .pre .0) (s .pre .2) (s .pre .1) (c .before .before .before .before .before .before .before .before .before .before .before .before .before .before .before .before .before .before .number-cells .ensures .0) (c .before .before .before .before .before .before .before .before .before .before .before .before .before .before .before .before .cell-capacity .ensures) (c .before .before .before .before .before .before .before .before .before .before .before .before .before .before .before .if1 .left)
+    let s = c .before .before .before .before .before .before .before .before .before .before .before .before .before .before .before .before .before .before .before .before .before .before .before .before .before .before .before .before .before .before in
+    let r = c .before .before .before .before .before .before .before .before .before .replace-cavity .ensures in
+    accepted-leaves (s .pre .0) (s .pre .2) (s .pre .1) (c .before .before .before .before .before .before .before .before .before .before .before .before .before .before .before .before .before .number-cells .ensures .0) (c .before .before .before .before .before .before .before .before .before .before .before .before .before .before .before .cell-capacity .ensures) (c .before .before .before .before .before .before .before .before .before .before .before .before .before .before .if1 .left)
     (c .accepted .ensures) (c .before .before .before .put-point .ensures ∙ points-only _ _ _ _ _) (r .0) (r .1)
 
 pub star-cavity-spec : {M : Type 1} → statement M

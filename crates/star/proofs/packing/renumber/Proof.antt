@@ -1,4 +1,10 @@
+use Prim.Native.Nat.{ℕ, _%_, _<_}
+use native.Mathlib.Decide.{ℕ-discrete}
 use native.Mathlib.Omega.{arith}
+use mathlib.Core.List.{List}
+use mathlib.Core.Logic.{_≢_}
+use mathlib.Core.Path.{_≡_, ap, _∙_}
+use lib.ListN.{getD}
 use borrow.Author.Needs.{needs}
 use borrow.Author.Tests.{eq-eqb, ne-eqb}
 use Rattle.mesh.specs.Tables.{none}
@@ -6,19 +12,25 @@ use Rattle.star.specs.Inner.{renumbered}
 use Rattle.star.proofs.packing.renumber.Statement.{statement}
 use Rattle.star.proofs.packing.renumber.Tie as tie
 
-returns : tie.Need-returns
+looked-up : (numbers : List ℕ) (e : ℕ) → (e ≢ none → e < 4096) → getD numbers 8191 0 ≡ none → getD numbers (e % 8192) 0 ≡ renumbered (λ c. getD numbers c 0) e
 unfolding renumbered
-returns c = rw (eq-eqb _ none (c .if1 .taken))
+looked-up numbers e h last = go (ℕ-discrete e none)
+  where
+    go : Dec (e ≡ none) → getD numbers (e % 8192) 0 ≡ renumbered (λ c. getD numbers c 0) e
+    go (yes q) = let p : e % 8192 ≡ 8191 = omega arith in rw (eq-eqb e none q) (ap (λ k. getD numbers k 0) p ∙ last)
+    go (no d) = let p : e % 8192 ≡ e = omega (arith, h d) in rw (ne-eqb e none d) (ap (λ k. getD numbers k 0) p)
+
+cast-result : tie.Need-cast-result
+cast-result c = search needs
 
 mul-result : tie.Need-mul-result
-mul-result c = search needs
+mul-result c = omega arith
 
-shared-slice-read-result : tie.Need-shared-slice-read-result
-shared-slice-read-result c = omega (arith, c .before .before .pre (c .before .if1 .left))
+element-copy-out-result : tie.Need-element-copy-out-result
+element-copy-out-result c = omega arith
 
-returns-2 : tie.Need-returns-2
-unfolding renumbered
-returns-2 c = rw (ne-eqb _ none (c .before .if1 .left))
+returns : tie.Need-returns
+returns c = let s = c .before in looked-up (s .args .numbers .now) (s .args .e) (s .pre .0) (s .pre .1)
 
 pub renumber-spec : {M : Type 1} → statement M
-renumber-spec = tie.close (tie.spec returns mul-result shared-slice-read-result returns-2)
+renumber-spec = tie.close (tie.spec cast-result mul-result element-copy-out-result returns)
