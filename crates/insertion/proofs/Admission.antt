@@ -7,7 +7,7 @@ use mathlib.Core.Path.{_≡_, refl, sym, ap, ap₂, _∙_, subst}
 use native.Mathlib.Omega.{arith}
 use native.Mathlib.Decide.{decLt}
 use lib.Dec.{eqb}
-use lib.ListN.{length, getD}
+use lib.ListN.{getD}
 use borrow.Author.Tests.{ne-eqb, eq-eqb, eqb-true, eqb-false, lt-ltb, le-ltb}
 use Rattle.arith.specs.Table.{anyBelow}
 use Rattle.arith.proofs.Flags.{clash, fails, bool-ext}
@@ -33,7 +33,7 @@ use Rattle.cavity.specs.Starlike.{Starlike}
 use Rattle.cavity.specs.Inner.{MeshOf, Ready, inside, setOf, Hollow}
 use Rattle.cavity.proofs.Correction.{base-at, corrected-starlike}
 use Rattle.star.specs.Star.{keptCount, madeCount, newCount, newPoints, newCorners, newNeighbours, star}
-use Rattle.star.specs.Inner.{Numbered, Replacing}
+use Rattle.star.specs.Inner.{Lookup, Numbered, Replacing}
 use Rattle.insertion.specs.declared.Inserted.{Inserted}
 use Rattle.insertion.specs.declared.Inserted.the-variants.{Accepted, Refused}
 use Rattle.insertion.specs.Insertion.{firstCavity, lastCavity, cellsMade, nodeRefusal, reportOf, insertedMesh, insertedTables}
@@ -130,7 +130,7 @@ module _ {m : Mesh} {t : Tables} {w : ℕ} {bytes : List ℕ} {d : Node} (A : Ad
           (lt-ltb (cellCapacity t w) (n + cellsMade m t p a) (omega (arith, l, made-is e, f, A .cells-are)))) (omega arith)
 
       module _ {made c : ℕ} (e : made ≡ madeCount t (d .cells) p (setOf (d .cells) st)) (f : c ≡ cellCapacity t w) (l : d .cells + made ≤ c) where
-        pub to-replace : {nu : List ℕ} → length nu ≡ 4096 → Numbered t (d .cells) p (setOf (d .cells) st) nu → Replacing t (d .points) (d .cells) p st li (r .after) fa nu made
+        pub to-replace : {nu : List ℕ} → Lookup nu → Numbered t (d .cells) p (setOf (d .cells) st) nu → Replacing t (d .points) (d .cells) p st li (r .after) fa nu made
         unfolding node-mesh
         to-replace h N = record {
           mesh = node-mesh;

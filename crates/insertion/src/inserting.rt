@@ -82,7 +82,7 @@ fn star_cavity(
 {
     let n = node.cells;
     let q = node.position;
-    let mut numbers = [0u16; 4096];
+    let mut numbers = [65535u16; 8192];
     let made = number_cells(
         points,
         corners,
@@ -109,7 +109,7 @@ fn star_cavity(
         list,
         after,
         faces,
-        &numbers,
+        &mut numbers,
         made,
     );
     put_point(points, np, q);

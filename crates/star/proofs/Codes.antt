@@ -3,13 +3,13 @@ use Prim.Native.Nat.{ℕ, zero, suc, _+_, _*_, _%_, _/_, _^_, _≤_, _<_}
 use mathlib.Core.Bool.{Bool, true, false, not, cond}
 use mathlib.Core.List.{List}
 use mathlib.Core.Logic.{_⊎_, inl, inr}
-use mathlib.Core.Path.{_≡_, refl, sym, ap, ap₂, _∙_}
+use mathlib.Core.Path.{_≡_, refl, sym, ap, ap₂, _∙_, subst}
 use native.Mathlib.Omega.{arith}
 use native.Mathlib.Numerals.{add-one}
 use native.Mathlib.Nat.{add-zero}
 use borrow.Author.Tests.{ne-eqb, lt-ltb}
 use lib.Dec.{eqb, ltb}
-use lib.ListN.{length, getD, set}
+use lib.ListN.{length, getD, set, length-set}
 use lib.Seq.{getD-set-same, getD-set-other}
 use mir.Val.{boolByte}
 use Rattle.arith.specs.Table.{countBelow}
@@ -24,7 +24,7 @@ use Rattle.mesh.proofs.Numbers.{byte≤}
 use Rattle.cavity.specs.Cavity.{inSet, outer, visible, facesGood}
 use Rattle.cavity.specs.Inner.{inside, setOf, facesCode, Inspected}
 use Rattle.star.specs.Star.{kept?, keptNumber}
-use Rattle.star.specs.Inner.{marked, slotOf, numberOf}
+use Rattle.star.specs.Inner.{marked, slotOf, numberOf, Lookup}
 
 -- ---- bits
 
@@ -119,6 +119,10 @@ kept-more n st c kept h e = rw (add-one c, set-at n st c h) (ap₂ _+_ e (byte (
 pub kept≤ : (s : List Bool) (c : ℕ) → keptNumber s c ≤ c
 unfolding keptNumber
 kept≤ s c = count-le c (kept? s)
+
+pub lookup-set : {nu nu′ : List ℕ} (c v : ℕ) → Lookup nu → c < 4096 → nu′ ≡ set nu c v → Lookup nu′
+lookup-set {nu} c v L h e =
+    subst Lookup (sym e) (record { long = length-set nu c v ∙ L .long; last = getD-set-other nu c 8191 v 0 (omega arith) ∙ L .last })
 
 -- a list with one more right entry
 pub filled-more : (l l′ : List ℕ) (g : ℕ → ℕ) (i a : ℕ) → i < length l → l′ ≡ set l i a → a ≡ g i →

@@ -69,13 +69,18 @@ starSlot t n p s g = cond (coplanar t p g) none (slotOf t n p s g)
 unfoldable pub slotAcross : Tables → ℕ → Position → List Bool → ℕ → ℕ → ℕ
 slotAcross t n p s f j = cond (eqb j (opposite f)) (across t f) (starSlot t n p s (turnFace t n s f j))
 
+-- a table with a number for each of 4,096 cells, and none at place 8,191, to which none comes modulo 8,192
+pub record Lookup (nu : List ℕ) : Type 0 where
+  pub long : length nu ≡ 8192
+  pub last : getD nu 8191 0 ≡ none
+
 -- the cavity of p is inspected, the cells are numbered, and there is room for the new ones
 pub record Ready (t : Tables) (n : ℕ) (p : Position) (st fa nu : List ℕ) (capacity : ℕ) : Type 0 where
   pub like : Starlike t n p (setOf n st)
   pub inspected : Inspected t n p (setOf n st) st fa
   pub numbered : Numbered t n p (setOf n st) nu
   pub codes : length fa ≡ 4096
-  pub numbers : length nu ≡ 4096
+  pub numbers : Lookup nu
   pub room : n + madeCount t n p (setOf n st) ≤ capacity
 
 -- the same of the mesh `was`, while the star is built

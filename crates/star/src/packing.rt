@@ -5,40 +5,35 @@ ghost use Prim.Native.Nat.{ℕ, _+_, _*_, _-_, _≤_, _<_};
 ghost use lib.ListN.{length, getD};
 ghost use Rattle.mesh.specs.Tables.{none};
 ghost use Rattle.mesh.specs.Inner.{HasCell, fourAt, withFour};
-ghost use Rattle.star.specs.Inner.{entryAt, stays, packNumber, renumbered, renumberedFour, Packing, Moved, Zeroed, Packed};
+ghost use Rattle.star.specs.Inner.{entryAt, stays, packNumber, renumbered, renumberedFour, Lookup, Packing, Moved, Zeroed, Packed};
 use mesh::Cell;
 use mesh::tables::load;
 use mesh::tables::store;
 
-// Every cell's number after: each new one comes down by as many cells as are dropped. None has its place too.
-fn packed_numbers(numbers: &[u16], n: usize, made: usize, size: usize) -> [u16; 8192]
-    requires { ⌜ (length (now numbers) ≡ 4096) × (n + made ≤ 4096) × (size ≤ n) ⌝ }
-    ensures { λ r. ⌜ ((c : ℕ) → c < n + made → getD r c 0 ≡ packNumber n size (now (numbers .entry)) c) × (getD r 8191 0 ≡ none) ⌝ }
+// The new cells' numbers: each comes down by as many cells as are dropped.
+fn number_new(numbers: &mut [u16], n: usize, made: usize, size: usize)
+    requires { ⌜ Lookup (now numbers) × (n + made ≤ 4096) × (size ≤ n) ⌝ }
+    ensures { λ _. ⌜ Lookup (now (numbers .exit))
+        × ((c : ℕ) → c < n + made → getD (now (numbers .exit)) c 0 ≡ packNumber n size (now (numbers .entry)) c) ⌝ }
 {
-    let mut packed = [65535u16; 8192];
-    let mut c: usize = 0;
-    while c < n {
-        packed[c] = numbers[c];
-        c += 1;
-    }
     let end = n + made;
+    let mut c = n;
     while c < end {
-        packed[c] = (c - size) as u16;
+        numbers[c] = (c - size) as u16;
         c += 1;
     }
-    packed
 }
 
-// None comes to place 8191, which no cell has: it needs no test.
-fn renumber(numbers: &[u16; 8192], e: u16) -> u16
-    requires { ⌜ (e ≢ none → e < 4096) × (getD (now numbers) 8191 0 ≡ none) ⌝ }
+// None comes to a place that holds none: it needs no test.
+fn renumber(numbers: &[u16], e: u16) -> u16
+    requires { ⌜ Lookup (now numbers) × (e ≢ none → e < 4096) ⌝ }
     ensures { λ r. ⌜ r ≡ renumbered (λ c. getD (now (numbers .entry)) c 0) e ⌝ }
 {
     numbers[(e % 8192) as usize]
 }
 
-fn renumber_four(numbers: &[u16; 8192], a: [u16; 4]) -> [u16; 4]
-    requires { ⌜ ((i : ℕ) → i < 4 → getD a i 0 ≢ none → getD a i 0 < 4096) × (getD (now numbers) 8191 0 ≡ none) ⌝ }
+fn renumber_four(numbers: &[u16], a: [u16; 4]) -> [u16; 4]
+    requires { ⌜ Lookup (now numbers) × ((i : ℕ) → i < 4 → getD a i 0 ≢ none → getD a i 0 < 4096) ⌝ }
     ensures { λ r. ⌜ r ≡ renumberedFour (λ c. getD (now (numbers .entry)) c 0) a ⌝ }
 {
     [
@@ -49,8 +44,8 @@ fn renumber_four(numbers: &[u16; 8192], a: [u16; 4]) -> [u16; 4]
     ]
 }
 
-fn renumber_cell(numbers: &[u16; 8192], cell: Cell) -> Cell
-    requires { ⌜ ((i : ℕ) → i < 4 → getD (cell .neighbours) i 0 ≢ none → getD (cell .neighbours) i 0 < 4096) × (getD (now numbers) 8191 0 ≡ none) ⌝ }
+fn renumber_cell(numbers: &[u16], cell: Cell) -> Cell
+    requires { ⌜ Lookup (now numbers) × ((i : ℕ) → i < 4 → getD (cell .neighbours) i 0 ≢ none → getD (cell .neighbours) i 0 < 4096) ⌝ }
     ensures { λ r. ⌜ r ≡ record { corners = cell .corners; neighbours = renumberedFour (λ c. getD (now (numbers .entry)) c 0) (cell .neighbours) } ⌝ }
 {
     let v = cell.corners;
@@ -77,10 +72,10 @@ fn move_cell(
     neighbours: &mut [u16],
     n: usize,
     state: &[u8],
-    numbers: &[u16; 8192],
+    numbers: &[u16],
     c: usize,
 )
-    requires { ⌜ HasCell c (now corners) × HasCell c (now neighbours) × (length (now state) ≡ 4096) × (getD (now numbers) 8191 0 ≡ none)
+    requires { ⌜ HasCell c (now corners) × HasCell c (now neighbours) × (length (now state) ≡ 4096) × Lookup (now numbers)
         × (stays n (now state) c ≡ true → getD (now numbers) c 0 ≤ c)
         × ((i : ℕ) → stays n (now state) c ≡ true → i < 4 → entryAt (now neighbours) c i ≢ none → entryAt (now neighbours) c i < 4096) ⌝ }
     ensures { λ _. ⌜ (now (corners .exit) ≡ cond (stays n (now (state .entry)) c)
@@ -104,9 +99,9 @@ fn move_cells(
     n: usize,
     end: usize,
     state: &[u8],
-    numbers: &[u16; 8192],
+    numbers: &[u16],
 )
-    requires { ⌜ Packing n end (now state) (λ c. getD (now numbers) c 0) (now corners) (now neighbours) × (getD (now numbers) 8191 0 ≡ none) ⌝ }
+    requires { ⌜ Packing n end (now state) (λ c. getD (now numbers) c 0) (now corners) (now neighbours) × Lookup (now numbers) ⌝ }
     ensures { λ _. ⌜ Moved n end (now (state .entry)) (λ c. getD (now (numbers .entry)) c 0)
         (now (corners .entry)) (now (neighbours .entry)) (now (corners .exit)) (now (neighbours .exit)) ⌝ }
 {
@@ -135,17 +130,17 @@ pub fn pack(
     n: usize,
     state: &[u8],
     size: usize,
-    numbers: &[u16],
+    numbers: &mut [u16],
     made: usize,
 )
     requires { ⌜ Packing n (n + made) (now state) (packNumber n size (now numbers)) (now corners) (now neighbours)
-        × (length (now numbers) ≡ 4096) × (size ≤ n) ⌝ }
+        × Lookup (now numbers) × (size ≤ n) ⌝ }
     ensures { λ _. ⌜ Packed n (n + made) size (now (state .entry)) (packNumber n size (now (numbers .entry)))
         (now (corners .entry)) (now (neighbours .entry)) (now (corners .exit)) (now (neighbours .exit)) ⌝ }
 {
-    let packed = packed_numbers(numbers, n, made, size);
+    number_new(numbers, n, made, size);
     let end = n + made;
-    move_cells(corners, neighbours, n, end, state, &packed);
+    move_cells(corners, neighbours, n, end, state, numbers);
     let from = 4 * (end - size);
     zero(corners, from, 4 * end);
     zero(neighbours, from, 4 * end);

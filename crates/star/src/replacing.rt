@@ -20,7 +20,7 @@ pub fn replace_cavity(
     list: &[u16],
     size: usize,
     faces: &[u8],
-    numbers: &[u16],
+    numbers: &mut [u16],
     made: usize,
 )
     requires { ⌜ Replacing (tables (now points) (now corners) (now neighbours)) np n q (now state) (now list) size (now faces) (now numbers) made ⌝ }

@@ -1,6 +1,6 @@
 use Prim.Native.Nat.{ℕ, _<_}
 use native.Mathlib.Omega.{arith}
-use mathlib.Core.Path.{_≡_, sym, _∙_, subst}
+use mathlib.Core.Path.{_≡_, sym, subst}
 use lib.ListN.{getD}
 use lib.IntN.{ℤ}
 use mir.Syntax.{w64}

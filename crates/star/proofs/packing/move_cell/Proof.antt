@@ -11,7 +11,7 @@ use Rattle.star.specs.Inner.{stays, renumberedFour}
 use Rattle.star.proofs.packing.move_cell.Statement.{statement}
 use Rattle.star.proofs.packing.move_cell.Tie as tie
 
-stay : (c : tie.Else1) → let a = c .before .before .before .before .before .args in stays (a .n) (a .state .now) (a .c) ≡ true
+stay : (c : tie.Else1) → let a = c .before .before .before .before .before .before .args in stays (a .n) (a .state .now) (a .c) ≡ true
 stay c = test-passed (c .before .cell-stays .ensures) (c .if1 .left)
 
 cell-stays-requires : tie.Need-cell-stays-requires
@@ -26,24 +26,24 @@ load-requires c κs = search needs
 renumber-cell-requires : tie.Need-renumber-cell-requires
 unfolding cellAt
 renumber-cell-requires c κs =
-    let s = c .before .before .before .before .before .before .before .before in (
+    let s = c .before .before .before .before .before .before .before .before .before in (
+      s .pre .3,
       λ i h d.
           let e = ap (λ (x : Cell). getD (x .neighbours) i 0) (c .load .ensures) ∙ four-entry (s .args .neighbours .now) (s .args .c) i h in
           omega (arith, s .pre .5 i (stay (c .before .before .before)) h (λ q. d (e ∙ q)), e),
-      s .pre .3,
     )
 
 mul-to : tie.Need-mul-to
 mul-to c = search needs
 
-element-copy-out-to : tie.Need-element-copy-out-to
-element-copy-out-to c = omega (arith, c .before .before .before .before .before .before .before .before .before .pre .0 .few)
+shared-slice-read-to : tie.Need-shared-slice-read-to
+shared-slice-read-to c = search needs
 
 cast-to : tie.Need-cast-to
-cast-to c = let p = c .before .before .before .before .before .before .before .before .before .before .pre in record { fits = omega (arith, p .4 (stay (c .before .before .before .before .before)), p .0 .few) }
+cast-to c = record { fits = omega (arith, c .shared-slice-known3 .given (c .before .before .before .before .before .before .before .before .before .before .before .args .c)) }
 
 store-requires : tie.Need-store-requires
-store-requires c κs = let p = c .before .before .before .before .before .before .before .before .before .before .before .before .pre in
+store-requires c κs = let p = c .before .before .before .before .before .before .before .before .before .before .before .before .before .pre in
     let d = p .4 (stay (c .before .before .before .before .before .before .before)) in
     (record { few = omega (arith, d, p .0 .few); fits = omega (arith, d, p .0 .fits) }, record { few = omega (arith, d, p .1 .few); fits = omega (arith, d, p .1 .fits) })
 
@@ -56,7 +56,7 @@ same-length-2 c = search needs
 returns-2 : tie.Need-returns-2
 unfolding cellAt
 returns-2 c =
-    let a = c .before .before .before .before .before .before .before .before .before .before .before .before .before .before .before .before .before .args in
+    let a = c .before .before .before .before .before .before .before .before .before .before .before .before .before .before .before .before .before .before .args in
     let e = c .before .before .before .before .before .before .before .before .renumber-cell .ensures ∙ ap (λ (x : Cell). record { corners = x .corners; neighbours = renumberedFour (λ e. getD (a .numbers .now) e 0) (x .neighbours) }) (c .before .before .before .before .before .before .before .before .before .load .ensures) in
     let to = getD (a .numbers .now) (a .c) 0 in
     rw (stay (c .before .before .before .before .before .before .before .before .before .before .before .before)) (
@@ -73,7 +73,7 @@ move-cell-spec =
     load-requires
     renumber-cell-requires
     mul-to
-    element-copy-out-to
+    shared-slice-read-to
     cast-to
     store-requires
     same-length

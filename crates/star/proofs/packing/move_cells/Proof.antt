@@ -15,11 +15,11 @@ abbrev μ-loop : tie.MeasureT-loop
 μ-loop corners₀ neighbours₀ n end state numbers c₀ corners neighbours c = end - c
 
 loop-holds : tie.Need-loop-holds Inv-loop μ-loop
-loop-holds c = (omega arith, moved-none (c .before .before .before .pre .0))
+loop-holds c = (omega arith, moved-none (c .before .before .before .before .pre .0))
 
 move-cell-requires : tie.Need-move-cell-requires Inv-loop μ-loop
 move-cell-requires c κs =
-    let p = c .before .before .before .before .before .before .before .pre in
+    let p = c .before .before .before .before .before .before .before .before .pre in
     let l = c .before .before .before .loop in
     let S = l .inv .1 in (
       movable-corners (p .0) (l .c) (omega arith) S,
@@ -31,7 +31,7 @@ move-cell-requires c κs =
     )
 
 add-c : tie.Need-add-c Inv-loop μ-loop
-add-c c = omega (arith, c .before .before .before .before .before .before .before .before .before .before .before .before .pre .0 .few)
+add-c c = omega (arith, c .before .before .before .before .before .before .before .before .before .before .before .before .before .pre .0 .few)
 
 loop-less : tie.Need-loop-less Inv-loop μ-loop
 loop-less c = omega arith
@@ -40,7 +40,7 @@ loop-again : tie.Need-loop-again Inv-loop μ-loop
 loop-again c =
     let l = c .before .before .before .before .before .before .before .before .loop in
     let e = c .before .before .before .before .move-cell .ensures in
-    (omega arith, moved-more (c .before .before .before .before .before .before .before .before .before .before .before .before .pre .0) (l .c) (omega arith) (l .inv .1) (e .0) (e .1))
+    (omega arith, moved-more (c .before .before .before .before .before .before .before .before .before .before .before .before .before .pre .0) (l .c) (omega arith) (l .inv .1) (e .0) (e .1))
 
 same-length : tie.Need-same-length Inv-loop μ-loop
 same-length c = c .before .loop .inv .1 .corners-long
@@ -51,7 +51,7 @@ same-length-2 c = c .before .loop .inv .1 .neighbours-long
 returns : tie.Need-returns Inv-loop μ-loop
 returns c =
     let l = c .before .loop in
-    let a = c .before .before .before .before .before .args in
+    let a = c .before .before .before .before .before .before .args in
     let e : l .c ≡ a .end = omega arith in
     subst (λ m. Moved (a .n) m (a .state .now) (λ d. getD (a .numbers .now) d 0) (a .corners .now) (a .neighbours .now) (l .corners) (l .neighbours)) e (l .inv .1)
 

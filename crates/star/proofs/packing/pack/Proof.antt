@@ -3,14 +3,14 @@ use Rattle.star.proofs.Moves.{packing-cong, moved-cong}
 use Rattle.star.proofs.packing.pack.Statement.{statement}
 use Rattle.star.proofs.packing.pack.Tie as tie
 
-packed-numbers-requires : tie.Need-packed-numbers-requires
-packed-numbers-requires c κs = search needs
+number-new-requires : tie.Need-number-new-requires
+number-new-requires c κs = search needs
 
 add-end : tie.Need-add-end
 add-end c = search needs
 
 move-cells-requires : tie.Need-move-cells-requires
-move-cells-requires c κs = let e = c .before .before .before .packed-numbers .ensures in (packing-cong (e .0) (c .before .before .before .before .before .before .before .before .pre .0), e .1)
+move-cells-requires c κs = let e = c .before .before .before .before .before .number-new .ensures in (packing-cong (e .1) (c .before .before .before .before .before .before .before .before .before .before .before .pre .0), e .0)
 
 sub-from : tie.Need-sub-from
 sub-from c = search needs
@@ -36,11 +36,14 @@ same-length c = search needs
 same-length-2 : tie.Need-same-length-2
 same-length-2 c = search needs
 
+same-length-3 : tie.Need-same-length-3
+same-length-3 c = search needs
+
 returns : tie.Need-returns
 returns c = record {
   corners₁ = c .before .before .before .before .before .before .before .before .before .before .before .before .move-cells .last .0;
   neighbours₁ = c .before .before .before .before .before .before .before .before .before .before .before .before .move-cells .last .1 .0;
-  moved = moved-cong (c .before .before .before .before .before .before .before .before .before .before .before .before .before .before .before .before .packed-numbers .ensures .0) (c .before .before .before .before .before .before .before .before .before .before .before .before .before .before .before .before .before .before .before .before .before .pre .0) (c .before .before .before .before .before .before .before .before .before .before .before .before .move-cells .ensures);
+  moved = moved-cong (c .before .before .before .before .before .before .before .before .before .before .before .before .before .before .before .before .before .before .number-new .ensures .1) (c .before .before .before .before .before .before .before .before .before .before .before .before .before .before .before .before .before .before .before .before .before .before .before .before .pre .0) (c .before .before .before .before .before .before .before .before .before .before .before .before .move-cells .ensures);
   corners-zeroed = c .before .before .before .before .before .before .zero .ensures;
   neighbours-zeroed = c .before .before .zero2 .ensures;
 }
@@ -49,7 +52,7 @@ pub pack-spec : {M : Type 1} → statement M
 pack-spec =
     tie.close
     (tie.spec
-    packed-numbers-requires
+    number-new-requires
     add-end
     move-cells-requires
     sub-from
@@ -60,4 +63,5 @@ pack-spec =
     zero-requires-2
     same-length
     same-length-2
+    same-length-3
     returns)

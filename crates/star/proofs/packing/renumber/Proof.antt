@@ -8,16 +8,16 @@ use lib.ListN.{getD}
 use borrow.Author.Needs.{needs}
 use borrow.Author.Tests.{eq-eqb, ne-eqb}
 use Rattle.mesh.specs.Tables.{none}
-use Rattle.star.specs.Inner.{renumbered}
+use Rattle.star.specs.Inner.{renumbered, Lookup}
 use Rattle.star.proofs.packing.renumber.Statement.{statement}
 use Rattle.star.proofs.packing.renumber.Tie as tie
 
-looked-up : (numbers : List ℕ) (e : ℕ) → (e ≢ none → e < 4096) → getD numbers 8191 0 ≡ none → getD numbers (e % 8192) 0 ≡ renumbered (λ c. getD numbers c 0) e
+looked-up : (numbers : List ℕ) (e : ℕ) → Lookup numbers → (e ≢ none → e < 4096) → getD numbers (e % 8192) 0 ≡ renumbered (λ c. getD numbers c 0) e
 unfolding renumbered
-looked-up numbers e h last = go (ℕ-discrete e none)
+looked-up numbers e L h = go (ℕ-discrete e none)
   where
     go : Dec (e ≡ none) → getD numbers (e % 8192) 0 ≡ renumbered (λ c. getD numbers c 0) e
-    go (yes q) = let p : e % 8192 ≡ 8191 = omega arith in rw (eq-eqb e none q) (ap (λ k. getD numbers k 0) p ∙ last)
+    go (yes q) = let p : e % 8192 ≡ 8191 = omega arith in rw (eq-eqb e none q) (ap (λ k. getD numbers k 0) p ∙ L .last)
     go (no d) = let p : e % 8192 ≡ e = omega (arith, h d) in rw (ne-eqb e none d) (ap (λ k. getD numbers k 0) p)
 
 cast-result : tie.Need-cast-result
@@ -26,11 +26,11 @@ cast-result c = search needs
 mul-result : tie.Need-mul-result
 mul-result c = omega arith
 
-element-copy-out-result : tie.Need-element-copy-out-result
-element-copy-out-result c = omega arith
+shared-slice-read-result : tie.Need-shared-slice-read-result
+shared-slice-read-result c = omega (arith, c .before .pre .0 .long)
 
 returns : tie.Need-returns
 returns c = let s = c .before in looked-up (s .args .numbers .now) (s .args .e) (s .pre .0) (s .pre .1)
 
 pub renumber-spec : {M : Type 1} → statement M
-renumber-spec = tie.close (tie.spec cast-result mul-result element-copy-out-result returns)
+renumber-spec = tie.close (tie.spec cast-result mul-result shared-slice-read-result returns)

@@ -26,7 +26,7 @@ new-number-requires c κs =
     let g = reached (p .0) _ _ _ (p .1) (p .2) (c .before .if1 .left) (stateOf (c .turn .result)) (c .turn .ensures (p .0 .standing)) in
     let g< = set-below _ _ _ (g .held) in
     let few = standing-few (p .0 .standing) in
-    (omega (arith, g<, few, p .0 .ready .codes), omega (arith, g<, few, p .0 .ready .numbers), g .exit<, number≤ (p .0) _ _ (g .held) (g .exit<))
+    (omega (arith, g<, few, p .0 .ready .codes), omega (arith, g<, few, p .0 .ready .numbers .long), g .exit<, number≤ (p .0) _ _ (g .held) (g .exit<))
 
 returns-2 : tie.Need-returns-2
 returns-2 c b =

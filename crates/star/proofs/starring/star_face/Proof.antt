@@ -24,7 +24,7 @@ new-number-requires c κs =
     let p = c .before .before .before .before .before .pre in
     let c< = set-below _ _ _ (p .1) in
     let few = standing-few (p .0 .standing) in
-    (omega (arith, c<, few, p .0 .ready .codes), omega (arith, c<, few, p .0 .ready .numbers), p .2, number≤ (p .0) _ _ (p .1) (p .2))
+    (omega (arith, c<, few, p .0 .ready .codes), omega (arith, c<, few, p .0 .ready .numbers .long), p .2, number≤ (p .0) _ _ (p .1) (p .2))
 
 returns : tie.Need-returns
 returns c b =
