@@ -5,7 +5,7 @@
  * answers and leaves in every lent entry is proved (crates/gantry/specs). All memory is the caller's and is lent for one call:
  * a pointer, then the number of entries behind it. A pointer is aligned for its type, and not NULL even where the length is 0; the
  * areas lent to one call do not overlap, and no other thread touches them meanwhile. The caller sees to that: it is assumed, not
- * proved. A call takes less than 32 KiB of stack.
+ * proved. A call takes less than 40 KiB of stack.
  *
  * Link with libgantry.a alone ('rt staticlib gantry' writes it, for x86-64 Linux); it takes memcpy and memset from the C library.
  */
