@@ -57,7 +57,7 @@ fn join(state: &mut [u8], list: &mut [u16], g: Gathered, c: usize, x: f64, kind:
     with_cell(g, c, x)
 }
 
-// A cell of the base joins.
+// A cell that holds the node joins.
 fn try_base(
     points: &[u32],
     corners: &[u16],
@@ -83,7 +83,7 @@ fn try_base(
     join(state, list, g, c, a.t, 2)
 }
 
-// Every cell that holds the node.
+// Every cell that holds the node. Most are ruled out by their side codes, here in the loop: a call for each would cost more than the test.
 pub fn find_base(
     points: &[u32],
     corners: &[u16],

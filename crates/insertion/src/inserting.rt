@@ -82,6 +82,7 @@ fn star_cavity(
 {
     let n = node.cells;
     let q = node.position;
+    // A number for each of 4,096 cells, and a place for none.
     let mut numbers = [65535u16; 8192];
     let made = number_cells(
         points,

@@ -18,7 +18,7 @@ right-is : (t : Tables) (n : ℕ) (p : Position) (b s : List Bool) → corrected
 unfolding seenBy keepsBy facesGoodBy cornersGoodBy markedBy prunedBy correctedBy facesGood cornersGood marked pruned corrected
 right-is t n p b s = refl
 
-by-size : (n : ℕ) {s s′ : List Bool} → eqb (cavitySize n s) (cavitySize n s′) ≡ false → s ≢ s′
+pub by-size : (n : ℕ) {s s′ : List Bool} → eqb (cavitySize n s) (cavitySize n s′) ≡ false → s ≢ s′
 by-size n {s} {s′} d e = eqb-false (cavitySize n s) (cavitySize n s′) d (ap (cavitySize n) e)
 
 separating-pieces : SeparatingPieces

@@ -10,9 +10,10 @@ use Rattle.arith.specs.Table.{tabulate, anyBelow, allBelow, iterate}
 use Rattle.geometry.specs.declared.Position.{Position}
 use Rattle.mesh.specs.Tables.{Tables, none, corner, across, side, faceHas}
 use Rattle.mesh.specs.Check.{sameZ}
-use Rattle.cavity.specs.Answers.{isYes}
+use Rattle.cavity.specs.Answers.{Answers, isYes}
 use Rattle.cavity.specs.Cavity.{inSet, base, outer, coplanar, visible, cavityOf}
 use Rattle.insertion.specs.Insertion.{lastCavity}
+use Rattle.insertion.specs.Calls.{Build}
 use Rattle.pieces.specs.Piece.{Piece, reached}
 
 pub data Rule : Type 0 where
@@ -77,10 +78,13 @@ module _ (r : Rule) (t : Tables) (n : ℕ) (p : Position) (b : List Bool) where
   unfoldable pub correctedBy : List Bool → List Bool
   correctedBy s = iterate (cond (is r one-round) 1 n) prunedBy s
 
--- on a piece's insertion the rule leaves another cavity than the definition
+-- where p is inserted, the rule leaves another cavity than the definition
+abbrev pub DiffersAt : Rule → Build → Position → Answers → Type 0
+DiffersAt r b p a =
+    let t = b .tables in
+    let n = b .mesh .cells in
+    correctedBy r t n p (base t n p) (cavityOf t n p (isYes a t p)) ≢ lastCavity (b .mesh) t p a
+
+-- on a piece's insertion
 abbrev pub Differs : Rule → Piece → Type 0
-Differs r h =
-    let t = reached h .tables in
-    let n = reached h .mesh .cells in
-    let cavity = cavityOf t n (h .node) (isYes (h .answers) t (h .node)) in
-    correctedBy r t n (h .node) (base t n (h .node)) cavity ≢ lastCavity (reached h .mesh) t (h .node) (h .answers)
+Differs r h = DiffersAt r (reached h) (h .node) (h .answers)

@@ -1,0 +1,43 @@
+-- Two nodes that lie evenly in a box, by the sphere test alone. It is rounded: for some of the cells on whose sphere the second node
+-- lies it says yes, and three of the wrong ways to correct a cavity (`Wrong`) leave another one.
+use Prim.Native.Nat.{ℕ}
+use mathlib.Core.Bool.{true, false}
+use mathlib.Core.List.{[], _∷_, map}
+use mathlib.Core.Path.{_≡_}
+use lib.IntN.{ℤ, pos}
+use lib.ListN.{replicate}
+use Rattle.geometry.specs.declared.Position.{Position}
+use Rattle.geometry.specs.Sphere.{sphereSum}
+use Rattle.mesh.specs.Tables.{cornerAt}
+use Rattle.cavity.specs.Answers.{sphere, isYes}
+use Rattle.insertion.specs.declared.Inserted.the-variants.{Accepted}
+use Rattle.insertion.specs.Insertion.{insertCall}
+use Rattle.insertion.specs.Calls.{Build, startBuild, by-sphere, meshAfter}
+use Rattle.pieces.specs.Piece.{at, float, lent}
+use Rattle.pieces.specs.Wrong.{zero-visible, lost-corners-only, one-round, DiffersAt}
+
+-- a box 60,000 high, a node 10,000 below its middle, and one as far above
+unfoldable pub one-node : Build
+one-node = meshAfter (startBuild 120000 80000 60000 (lent 30) 90) (by-sphere 90 (at 70000 30000 20000) ∷ [])
+
+unfoldable pub above : Position
+above = at 70000 30000 40000
+
+-- E of cell c
+unfoldable pub exact : ℕ → ℤ
+exact c =
+    let t = one-node .tables in
+    sphereSum (cornerAt t c 0) (cornerAt t c 1) (cornerAt t c 2) (cornerAt t c 3) above
+
+pub record EvenNodes : Type 0 where
+  -- eight of the twelve cells have it on their sphere, and four of these answer yes
+  pub on-sphere : map exact (0 ∷ 2 ∷ 4 ∷ 5 ∷ 7 ∷ 9 ∷ 10 ∷ 11 ∷ []) ≡ replicate 8 (pos 0)
+  pub either-way : map (isYes sphere (one-node .tables) above) (0 ∷ 2 ∷ 4 ∷ 5 ∷ 7 ∷ 9 ∷ 10 ∷ 11 ∷ []) ≡
+      true ∷ false ∷ false ∷ false ∷ false ∷ true ∷ true ∷ true ∷ []
+  -- of the six cells of the cavity four do not stay
+  pub inserted : insertCall (one-node .mesh) (one-node .tables) 90 above sphere .answer ≡
+      Accepted record { x = 120000; y = 80000; z = 60000; points = 10; cells = 16 }
+      record { point = 9; before = 6; after = 2; made = 6; least = float 33554432 }
+  pub from-zero-visible : DiffersAt zero-visible one-node above sphere
+  pub from-lost-corners-only : DiffersAt lost-corners-only one-node above sphere
+  pub from-one-round : DiffersAt one-round one-node above sphere
