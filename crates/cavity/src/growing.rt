@@ -83,7 +83,7 @@ fn try_base(
     join(state, list, g, c, a.t, 2)
 }
 
-// Every cell that holds the node. Most are ruled out by their side codes, here in the loop: a call for each would cost more than the test.
+// Every cell that holds the node. Side codes rule most cells out here in the loop: a call for each would cost more.
 pub fn find_base(
     points: &[u32],
     corners: &[u16],

@@ -1,6 +1,6 @@
 //! One call with all that it is lent, and what it leaves.
 
-use plain::{Inserted, Listed, Located, Mesh, Position, Read, Sphere, Started, Written};
+use plain::{Answers, Inserted, Listed, Located, Mesh, Position, Read, Sphere, Started, Written};
 
 use crate::builders::Builder;
 use crate::guarded::{Guarded, GuardedTables};
@@ -79,9 +79,10 @@ impl Call {
             Call::Volume6(twelve) => Answer::Volume(builder.volume6(twelve)),
             Call::SphereTest(corners, p) => Answer::Sphere(builder.sphere_test(corners, p)),
             Call::Start(sides) => Answer::Started(builder.start(sides, lent)),
-            Call::Insert(p) => Answer::Inserted(builder.insert(mesh, lent, p)),
+            Call::Insert(p) => Answer::Inserted(builder.insert(mesh, lent, Answers::Float, p)),
             Call::InsertAnswers(_, p) => {
-                Answer::Inserted(builder.insert_answers(mesh, lent, bytes.lent(), p))
+                let answers = Answers::Given(bytes.lent());
+                Answer::Inserted(builder.insert(mesh, lent, answers, p))
             }
             Call::InsertList(_) => Answer::Listed(builder.insert_list(mesh, lent, numbers.lent())),
             Call::Locate(p) => Answer::Located(builder.locate(mesh, lent, p)),

@@ -3,7 +3,7 @@
 use std::fmt::Write;
 
 use plain::listing::cells;
-use plain::{Inserted, Owned, Position};
+use plain::{Answers, Inserted, Owned, Position};
 
 use crate::builders::Builder;
 
@@ -106,11 +106,8 @@ impl Script {
         let mut mesh = started.mesh;
         let mut text = String::new();
         for Insertion { answers, node } in &self.insertions {
-            let lent = &mut tables.lend();
-            let answer = match answers {
-                None => build.insert(mesh, lent, *node),
-                Some(bytes) => build.insert_answers(mesh, lent, bytes, *node),
-            };
+            let answers = answers.as_deref().map_or(Answers::Float, Answers::Given);
+            let answer = build.insert(mesh, &mut tables.lend(), answers, *node);
             mesh = answer.mesh;
             let _ = write!(text, "{}", said(answer));
         }

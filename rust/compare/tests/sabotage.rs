@@ -1,7 +1,9 @@
 //! The comparison sees a single wrong entry or bit.
 
 use compare::{run, Builder, Tuned};
-use plain::{Inserted, Listed, Located, Mesh, Position, Read, Sphere, Started, Tables, Written};
+use plain::{
+    Answers, Inserted, Listed, Located, Mesh, Position, Read, Sphere, Started, Tables, Written,
+};
 
 #[derive(Clone, Copy)]
 enum Harm {
@@ -50,24 +52,12 @@ impl Builder for Harmed {
         Tuned.start(sides, tables)
     }
 
-    fn insert(&self, mesh: Mesh, tables: &mut Tables, p: Position) -> Inserted {
-        let mut answer = Tuned.insert(mesh, tables, p);
-        if matches!(self.0, Harm::Record) && answer.refusal != 0 {
-            answer.mesh = Mesh::default();
-        }
-        answer
-    }
-
-    fn insert_answers(
-        &self,
-        mesh: Mesh,
-        tables: &mut Tables,
-        answers: &[u8],
-        p: Position,
-    ) -> Inserted {
-        let mut answer = Tuned.insert_answers(mesh, tables, answers, p);
-        if matches!(self.0, Harm::Sign) {
-            answer.least = -answer.least;
+    fn insert(&self, mesh: Mesh, tables: &mut Tables, answers: Answers, p: Position) -> Inserted {
+        let mut answer = Tuned.insert(mesh, tables, answers, p);
+        match (self.0, answers) {
+            (Harm::Record, Answers::Float) if answer.refusal != 0 => answer.mesh = Mesh::default(),
+            (Harm::Sign, Answers::Given(_)) => answer.least = -answer.least,
+            _ => {}
         }
         answer
     }

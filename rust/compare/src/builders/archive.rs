@@ -1,5 +1,7 @@
 use gantry::raw::{self, Record};
-use plain::{Inserted, Listed, Located, Mesh, Position, Read, Sphere, Started, Tables, Written};
+use plain::{
+    Answers, Inserted, Listed, Located, Mesh, Position, Read, Sphere, Started, Tables, Written,
+};
 
 use super::Builder;
 
@@ -70,19 +72,12 @@ impl Builder for Archive {
         }
     }
 
-    fn insert(&self, mesh: Mesh, tables: &mut Tables, p: Position) -> Inserted {
-        inserted(raw::insert(record(mesh), &mut lent(tables), p))
-    }
-
-    fn insert_answers(
-        &self,
-        mesh: Mesh,
-        tables: &mut Tables,
-        answers: &[u8],
-        p: Position,
-    ) -> Inserted {
-        let tables = &mut lent(tables);
-        inserted(raw::insert_answers(record(mesh), tables, answers, p))
+    fn insert(&self, mesh: Mesh, tables: &mut Tables, answers: Answers, p: Position) -> Inserted {
+        let (mesh, tables) = (record(mesh), &mut lent(tables));
+        inserted(match answers {
+            Answers::Float => raw::insert(mesh, tables, p),
+            Answers::Given(bytes) => raw::insert_answers(mesh, tables, bytes, p),
+        })
     }
 
     fn insert_list(&self, mesh: Mesh, tables: &mut Tables, nodes: &[u32]) -> Listed {

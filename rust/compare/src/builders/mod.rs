@@ -11,7 +11,8 @@ pub use self::plain::Plain;
 pub use self::tuned::Tuned;
 
 use ::plain::{
-    Fault, Inserted, Listed, Located, Mesh, Position, Read, Sphere, Started, Tables, Written,
+    Answers, Fault, Inserted, Listed, Located, Mesh, Position, Read, Sphere, Started, Tables,
+    Written,
 };
 
 /// The build with this name: plain, tuned, archive, or plain made wrong by the fault with this name.
@@ -41,14 +42,8 @@ pub trait Builder {
     fn volume6(&self, numbers: [i32; 12]) -> i64;
     fn sphere_test(&self, corners: [Position; 4], p: Position) -> Sphere;
     fn start(&self, sides: Position, tables: &mut Tables) -> Started;
-    fn insert(&self, mesh: Mesh, tables: &mut Tables, p: Position) -> Inserted;
-    fn insert_answers(
-        &self,
-        mesh: Mesh,
-        tables: &mut Tables,
-        answers: &[u8],
-        p: Position,
-    ) -> Inserted;
+    /// By the sphere test or by answers handed in: two calls of the interface.
+    fn insert(&self, mesh: Mesh, tables: &mut Tables, answers: Answers, p: Position) -> Inserted;
     fn insert_list(&self, mesh: Mesh, tables: &mut Tables, nodes: &[u32]) -> Listed;
     fn locate(&self, mesh: Mesh, tables: &mut Tables, p: Position) -> Located;
     fn check(&self, mesh: Mesh, tables: &mut Tables) -> bool;

@@ -26,18 +26,8 @@ impl Builder for Plain {
         plain::start(sides, tables)
     }
 
-    fn insert(&self, mesh: Mesh, tables: &mut Tables, p: Position) -> Inserted {
-        plain::insert_with(self.0, mesh, tables, Answers::Float, p)
-    }
-
-    fn insert_answers(
-        &self,
-        mesh: Mesh,
-        tables: &mut Tables,
-        answers: &[u8],
-        p: Position,
-    ) -> Inserted {
-        plain::insert_with(self.0, mesh, tables, Answers::Given(answers), p)
+    fn insert(&self, mesh: Mesh, tables: &mut Tables, answers: Answers, p: Position) -> Inserted {
+        plain::insert_with(self.0, mesh, tables, answers, p)
     }
 
     fn insert_list(&self, mesh: Mesh, tables: &mut Tables, nodes: &[u32]) -> Listed {

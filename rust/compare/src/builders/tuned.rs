@@ -1,4 +1,6 @@
-use plain::{Inserted, Listed, Located, Mesh, Position, Read, Sphere, Started, Tables, Written};
+use plain::{
+    Answers, Inserted, Listed, Located, Mesh, Position, Read, Sphere, Started, Tables, Written,
+};
 
 use super::Builder;
 
@@ -21,18 +23,11 @@ impl Builder for Tuned {
         tuned::start(sides, tables)
     }
 
-    fn insert(&self, mesh: Mesh, tables: &mut Tables, p: Position) -> Inserted {
-        tuned::insert(mesh, tables, p)
-    }
-
-    fn insert_answers(
-        &self,
-        mesh: Mesh,
-        tables: &mut Tables,
-        answers: &[u8],
-        p: Position,
-    ) -> Inserted {
-        tuned::insert_answers(mesh, tables, answers, p)
+    fn insert(&self, mesh: Mesh, tables: &mut Tables, answers: Answers, p: Position) -> Inserted {
+        match answers {
+            Answers::Float => tuned::insert(mesh, tables, p),
+            Answers::Given(bytes) => tuned::insert_answers(mesh, tables, bytes, p),
+        }
     }
 
     fn insert_list(&self, mesh: Mesh, tables: &mut Tables, nodes: &[u32]) -> Listed {
