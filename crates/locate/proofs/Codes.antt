@@ -258,6 +258,25 @@ pub code-at : (ps : List ℕ) (np : ℕ) (q : Position) → np ≤ 1024 → (v :
 unfolding sideCodes
 code-at ps np q h v l = tabulate-at 1024 (λ v. cond (ltb v np) (sideCode (pointIn ps v) q) 0) v 0 (omega arith) ∙ rw (lt-ltb v np l)
 
+-- the volumes that a cell's four corners give are its sides
+pub side-of-four : (ps cs ns : List ℕ) (c i : ℕ) (q : Position) → i < 4 →
+    volume (replaced (λ j. pointIn ps (getD (fourAt cs c) j 0)) i q) ≡ side (tables ps cs ns) q (4 * c + i)
+unfolding side cornerAt
+side-of-four ps cs ns c i q h =
+    volume-cong (replaced (λ j. pointIn ps (getD (fourAt cs c) j 0)) i q) (replaced (cornerAt t c) i q)
+    (λ j l. ap (λ v. cond (eqb j i) q (pointIn ps v)) (four-corner t c j l)) ∙
+    sym (ap₂ (λ d j. volume (replaced (cornerAt t d) j q)) (face-cell c i h) (face-opposite c i h))
+  where
+    t : Tables
+    t = tables ps cs ns
+
+pub holds-is : (ps cs ns : List ℕ) (c : ℕ) (q : Position) {k : List ℕ} → k ≡ fourAt cs c → holdsFour ps k q ≡ holds (tables ps cs ns) q c
+unfolding holdsFour holds
+holds-is ps cs ns c q ek =
+    ap (λ k. holdsFour ps k q) ek ∙
+    all-cong 4 (λ i. leZ (pos 0) (volume (replaced (λ j. pointIn ps (getD (fourAt cs c) j 0)) i q))) (λ i. leZ (pos 0) (side (tables ps cs ns) q (4 * c + i)))
+    (λ i h. ap (leZ (pos 0)) (side-of-four ps cs ns c i q h))
+
 -- ---- a cell of solid tables
 
 module _ (ps cs : List ℕ) (np n : ℕ) (q : Position) (S : Solid ps cs np n) (hq : InRange q) (c : ℕ) (c< : c < n) where
@@ -283,20 +302,7 @@ module _ (ps cs : List ℕ) (np n : ℕ) (q : Position) (S : Solid ps cs np n) (
         positive = subst (λ z. pos 0 <ℤ z) (sym (four-volume ps cs c)) (S .positive c c<);
       })
 
--- the volumes that a cell's four corners give are its sides
-pub side-of-four : (ps cs ns : List ℕ) (c i : ℕ) (q : Position) → i < 4 →
-    volume (replaced (λ j. pointIn ps (getD (fourAt cs c) j 0)) i q) ≡ side (tables ps cs ns) q (4 * c + i)
-unfolding side cornerAt
-side-of-four ps cs ns c i q h =
-    volume-cong (replaced (λ j. pointIn ps (getD (fourAt cs c) j 0)) i q) (replaced (cornerAt t c) i q)
-    (λ j l. ap (λ v. cond (eqb j i) q (pointIn ps v)) (four-corner t c j l)) ∙
-    sym (ap₂ (λ d j. volume (replaced (cornerAt t d) j q)) (face-cell c i h) (face-opposite c i h))
-  where
-    t : Tables
-    t = tables ps cs ns
-
-pub holds-is : (ps cs ns : List ℕ) (c : ℕ) (q : Position) → holdsFour ps (fourAt cs c) q ≡ holds (tables ps cs ns) q c
-unfolding holdsFour holds
-holds-is ps cs ns c q =
-    all-cong 4 (λ i. leZ (pos 0) (volume (replaced (λ j. pointIn ps (getD (fourAt cs c) j 0)) i q))) (λ i. leZ (pos 0) (side (tables ps cs ns) q (4 * c + i)))
-    (λ i h. ap (leZ (pos 0)) (side-of-four ps cs ns c i q h))
+  -- its corners share a bit
+  pub ruled-out : (ns : List ℕ) {codes k : List ℕ} → codes ≡ sideCodes ps np q → k ≡ fourAt cs c → sharedBits codes k ≢ 0 →
+      holds (tables ps cs ns) q c ≡ false
+  ruled-out ns ec ek d = sym (holds-is ps cs ns c q ek) ∙ apart ps _ _ q (coded ec ek) d

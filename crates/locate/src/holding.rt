@@ -1,5 +1,5 @@
 ghost use mathlib.Core.Path.{_≡_};
-ghost use Prim.Native.Nat.{_≤_, _<_, _*_};
+ghost use Prim.Native.Nat.{ℕ, _≤_, _<_, _*_};
 ghost use lib.ListN.{length, getD};
 ghost use Rattle.locate.specs.Inner.{axisCode, sideCode, sideCodes, sharedBits, holdsFour, Testable};
 use geometry::Position;
@@ -34,8 +34,7 @@ pub fn side_codes(points: &[u32], np: usize, q: Position) -> [u8; 1024]
 
 // Where a cell's corners share a bit, all are beyond q on one side of an axis: it does not hold q, and no volume is worked out.
 pub fn shared_bits(codes: &[u8], k: [u16; 4]) -> u8
-    requires { ⌜ (getD k 0 0 < length (now codes)) × (getD k 1 0 < length (now codes))
-        × (getD k 2 0 < length (now codes)) × (getD k 3 0 < length (now codes)) ⌝ }
+    requires { ⌜ ((i : ℕ) → i < 4 → getD k i 0 < length (now codes)) ⌝ }
     ensures { λ r. ⌜ r ≡ sharedBits (now (codes .entry)) k ⌝ }
 {
     codes[k[0] as usize] & codes[k[1] as usize] & codes[k[2] as usize] & codes[k[3] as usize]

@@ -2,11 +2,10 @@ use Rattle.cavity.proofs.growing.find_base.Statement.{statement}
 use Rattle.cavity.proofs.growing.find_base.Tie as tie
 use Prim.Native.Nat.{_-_, _≤_}
 use mathlib.Core.Logic.{⊎-elim}
-use mathlib.Core.Path.{_≡_, sym, ap, _∙_}
+use mathlib.Core.Path.{_≡_, sym, _∙_}
 use native.Mathlib.Omega.{arith}
 use Rattle.mesh.specs.Inner.{tables}
-use Rattle.locate.specs.Inner.{holdsFour, Coded}
-use Rattle.locate.proofs.Codes.{coded, apart, holds-is}
+use Rattle.locate.proofs.Codes.{coded, ruled-out}
 use Rattle.cavity.specs.Answers.{answersOf}
 use Rattle.cavity.specs.Inner.{Scanned}
 use Rattle.cavity.proofs.Meshes.{has-corners, solid, cells-few}
@@ -24,15 +23,11 @@ loop-holds c = let s = c .before .before .before .before .before .before .before
 abbrev start : tie.After-four-at Inv-loop μ-loop → tie.Start Inv-loop μ-loop
 start c = c .before .before .before .before .before .before .before .before .before .before
 
--- what the codes and corners of the loop's cell are
-cell : (c : tie.After-four-at Inv-loop μ-loop) → let a = start c .args in Coded (a .points .now) (a .codes .now) (c .four-at .result) (a .node .position)
-cell c = let p = start c .pre in coded _ _ _ _ _ (solid (p .0 .mesh)) (p .0 .position) _ (omega arith) (p .1) (c .four-at .ensures)
-
 four-at-requires : tie.Need-four-at-requires Inv-loop μ-loop
 four-at-requires c κs = let s = c .before .before .before .before .before .before .before .before .before in has-corners (s .pre .0 .mesh) _ (omega arith)
 
 shared-bits-requires : tie.Need-shared-bits-requires Inv-loop μ-loop
-shared-bits-requires c κs = let k = cell c in (k .code< 0 (omega arith), k .code< 1 (omega arith), k .code< 2 (omega arith), k .code< 3 (omega arith))
+shared-bits-requires c κs = let p = start c .pre in coded _ _ _ _ _ (solid (p .0 .mesh)) (p .0 .position) _ (omega arith) (p .1) (c .four-at .ensures) .code<
 
 try-base-requires : tie.Need-try-base-requires Inv-loop μ-loop
 try-base-requires c κs = let f = c .before .before .before .before in (start f .pre .0, omega arith, f .before .before .loop .inv .1)
@@ -47,15 +42,13 @@ loop-less c = omega arith
 loop-again : tie.Need-loop-again Inv-loop μ-loop
 loop-again c =
     let f = c .before .before in
-    let s = start f in
-    let a = s .args in
-    let l = f .before .before .loop in
-    let held = ap (λ k. holdsFour (a .points .now) k (a .node .position)) (f .four-at .ensures) ∙ holds-is (a .points .now) (a .corners .now) (a .neighbours .now) (l .c) (a .node .position) in (
+    let p = start f .pre in
+    let l = f .before .before .loop in (
       omega arith,
       ⊎-elim
           (λ w. scanned-same (w .8) (w .9) (w .10) (w .3 .ensures))
-          (λ w. scanned-same (w .1) (w .2) (w .3) (scan-past (s .pre .0 .mesh) _ (s .pre .0 .position) (l .inv .1)
-          (sym held ∙ apart _ _ _ _ (cell f) (λ z. w .0 .left (c .before .shared-bits .ensures ∙ z)))))
+          (λ w. scanned-same (w .1) (w .2) (w .3) (scan-past (p .0 .mesh) _ (p .0 .position) (l .inv .1)
+          (ruled-out _ _ _ _ _ (solid (p .0 .mesh)) (p .0 .position) _ (omega arith) _ (p .1) (f .four-at .ensures) (λ z. w .0 .left (c .before .shared-bits .ensures ∙ z)))))
           (c .if1 .came),
     )
 

@@ -1,10 +1,9 @@
 use borrow.Author.Needs.{needs}
-use mathlib.Core.Path.{_≡_, _∙_, ap}
+use mathlib.Core.Path.{_≡_, _∙_}
 use native.Mathlib.Omega.{arith}
 use Rattle.arith.proofs.Flags.{test-failed, test-passed}
 use Rattle.mesh.specs.Inner.{tables}
 use Rattle.locate.specs.Locate.{holds}
-use Rattle.locate.specs.Inner.{holdsFour}
 use Rattle.locate.proofs.Codes.{testable, holds-is}
 use Rattle.cavity.proofs.Meshes.{has-corners, solid, cells-few, answer-t}
 use Rattle.cavity.proofs.Visiting.{not-yet, scan-past, scan-join}
@@ -19,7 +18,7 @@ tested : (c : tie.After-cell-holds) → let a = start (c .before) .args in
     c .cell-holds .result ≡ holds (tables (a .points .now) (a .corners .now) (a .neighbours .now)) (a .node .position) (a .c)
 tested c =
     let a = start (c .before) .args in
-    c .cell-holds .ensures ∙ (ap (λ k. holdsFour (a .points .now) k (a .node .position)) (c .before .four-at .ensures) ∙ holds-is (a .points .now) (a .corners .now) (a .neighbours .now) (a .c) (a .node .position))
+    c .cell-holds .ensures ∙ holds-is (a .points .now) (a .corners .now) (a .neighbours .now) (a .c) (a .node .position) (c .before .four-at .ensures)
 
 four-at-requires : tie.Need-four-at-requires
 four-at-requires c κs = let s = c .before .before .before .before .before .before .before in has-corners (s .pre .0 .mesh) _ (s .pre .1)

@@ -1,3 +1,4 @@
+use native.Mathlib.Omega.{arith}
 use mathlib.Core.Path.{refl}
 use borrow.Author.Needs.{needs}
 use Rattle.locate.specs.Inner.{sharedBits}
@@ -11,7 +12,7 @@ cast-result : tie.Need-cast-result
 cast-result c = search needs
 
 shared-slice-read-result : tie.Need-shared-slice-read-result
-shared-slice-read-result c = search needs
+shared-slice-read-result c = omega (arith, c .before .pre 0 (omega arith))
 
 array-read-result-2 : tie.Need-array-read-result-2
 array-read-result-2 c = search needs
@@ -20,7 +21,7 @@ cast-result-2 : tie.Need-cast-result-2
 cast-result-2 c = search needs
 
 shared-slice-read-result-2 : tie.Need-shared-slice-read-result-2
-shared-slice-read-result-2 c = search needs
+shared-slice-read-result-2 c = omega (arith, c .before .before .pre 1 (omega arith))
 
 array-read-result-3 : tie.Need-array-read-result-3
 array-read-result-3 c = search needs
@@ -29,7 +30,7 @@ cast-result-3 : tie.Need-cast-result-3
 cast-result-3 c = search needs
 
 shared-slice-read-result-3 : tie.Need-shared-slice-read-result-3
-shared-slice-read-result-3 c = search needs
+shared-slice-read-result-3 c = omega (arith, c .before .before .before .pre 2 (omega arith))
 
 array-read-result-4 : tie.Need-array-read-result-4
 array-read-result-4 c = search needs
@@ -38,7 +39,7 @@ cast-result-4 : tie.Need-cast-result-4
 cast-result-4 c = search needs
 
 shared-slice-read-result-4 : tie.Need-shared-slice-read-result-4
-shared-slice-read-result-4 c = search needs
+shared-slice-read-result-4 c = omega (arith, c .before .before .before .before .pre 3 (omega arith))
 
 returns : tie.Need-returns
 unfolding sharedBits

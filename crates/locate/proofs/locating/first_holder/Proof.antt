@@ -10,7 +10,7 @@ use Rattle.arith.proofs.Tables.{below-more, first-is, first-none}
 use Rattle.mesh.specs.Inner.{tables}
 use Rattle.locate.specs.Locate.{holds}
 use Rattle.locate.specs.Inner.{holdsFour, Coded}
-use Rattle.locate.proofs.Codes.{codes-length, coded, apart, holds-is}
+use Rattle.locate.proofs.Codes.{codes-length, coded, ruled-out, holds-is}
 use Rattle.locate.proofs.locating.first_holder.Statement.{statement}
 use Rattle.locate.proofs.locating.first_holder.Tie as tie
 
@@ -20,18 +20,17 @@ Inv-loop points corners np n q codes c₀ c = (c ≤ n) × ((k : ℕ) → k < c 
 abbrev μ-loop : tie.MeasureT-loop
 μ-loop points corners np n q codes c₀ c = n - c
 
--- what the codes and corners of the loop's cell are
-abbrev cell : (c : tie.After-codes Inv-loop μ-loop) → let s = c .before .before .before .before .before .before .before in
-    Coded (s .args .points .now) (c .before .before .before .before .side-codes .result) (c .before .four-at .result) (s .args .q)
-cell c =
-    let s = c .before .before .before .before .before .before .before in
-    coded _ _ _ _ _ (s .pre .0) (s .pre .1) _ (omega arith) (c .before .before .before .before .side-codes .ensures) (c .before .four-at .ensures)
+abbrev start : tie.After-four-at Inv-loop μ-loop → tie.Start Inv-loop μ-loop
+start c = c .before .before .before .before .before .before
 
-is-held : (c : tie.After-shared-bits Inv-loop μ-loop) → let a = c .before .before .before .before .before .before .before .before .args in
-    holdsFour (a .points .now) (c .before .before .four-at .result) (a .q) ≡ holds (tables (a .points .now) (a .corners .now) []) (a .q) (c .before .before .before .before .loop .c)
-is-held c =
-    let a = c .before .before .before .before .before .before .before .before .args in
-    ap (λ k. holdsFour (a .points .now) k (a .q)) (c .before .before .four-at .ensures) ∙ holds-is (a .points .now) (a .corners .now) [] _ (a .q)
+-- what the codes and corners of the loop's cell are
+abbrev cell : (c : tie.After-four-at Inv-loop μ-loop) → let a = start c .args in
+    Coded (a .points .now) (c .before .before .before .side-codes .result) (c .four-at .result) (a .q)
+cell c = let p = start c .pre in coded _ _ _ _ _ (p .0) (p .1) _ (omega arith) (c .before .before .before .side-codes .ensures) (c .four-at .ensures)
+
+is-held : (c : tie.After-four-at Inv-loop μ-loop) → let a = start c .args in
+    holdsFour (a .points .now) (c .four-at .result) (a .q) ≡ holds (tables (a .points .now) (a .corners .now) []) (a .q) (c .before .before .loop .c)
+is-held c = let a = start c .args in holds-is (a .points .now) (a .corners .now) [] _ (a .q) (c .four-at .ensures)
 
 side-codes-requires : tie.Need-side-codes-requires Inv-loop μ-loop
 side-codes-requires c κs = let p = c .before .before .pre .0 .placed in (p .points-few, p .points-fit)
@@ -46,25 +45,26 @@ slice-aggregate-shared-bits : tie.Need-slice-aggregate-shared-bits Inv-loop μ-l
 slice-aggregate-shared-bits c = sym (ap length (c .before .before .before .before .side-codes .ensures) ∙ codes-length _ _ _)
 
 shared-bits-requires : tie.Need-shared-bits-requires Inv-loop μ-loop
-shared-bits-requires c κs = let k = cell c in (k .code< 0 (omega arith), k .code< 1 (omega arith), k .code< 2 (omega arith), k .code< 3 (omega arith))
+shared-bits-requires c κs = cell (c .before) .code<
 
 cell-holds-requires : tie.Need-cell-holds-requires Inv-loop μ-loop
-cell-holds-requires c κs = cell (c .before .before) .test
+cell-holds-requires c κs = cell (c .before .before .before) .test
 
 returns : tie.Need-returns Inv-loop μ-loop
 returns c =
-    let b = c .before .before .before in
-    let l = b .before .before .before .before .loop in
-    sym (first-is _ _ (l .c) (omega arith) (sym (c .before .cell-holds .ensures ∙ is-held b) ∙ c .if2 .taken) (l .inv .1))
+    let f = c .before .before .before .before .before in
+    let l = f .before .before .loop in
+    sym (first-is _ _ (l .c) (omega arith) (sym (c .before .cell-holds .ensures ∙ is-held f) ∙ c .if2 .taken) (l .inv .1))
 
 -- neither way out of the tests does the cell hold q
-not-held : (c : tie.Joined1 Inv-loop μ-loop) → let a = c .before .before .before .before .before .before .before .before .before .args in
-    holds (tables (a .points .now) (a .corners .now) []) (a .q) (c .before .before .before .before .before .loop .c) ≡ false
+not-held : (c : tie.Joined1 Inv-loop μ-loop) → let f = c .before .before .before in let a = start f .args in
+    holds (tables (a .points .now) (a .corners .now) []) (a .q) (f .before .before .loop .c) ≡ false
 not-held c =
-    let b = c .before in
+    let f = c .before .before .before in
+    let p = start f .pre in
     ⊎-elim
-    (λ w. sym (w .1 .ensures ∙ is-held b) ∙ w .2 .left)
-    (λ e. sym (is-held b) ∙ apart _ _ _ _ (cell (b .before)) (λ z. e .left (b .shared-bits .ensures ∙ z)))
+    (λ w. sym (w .1 .ensures ∙ is-held f) ∙ w .2 .left)
+    (λ e. ruled-out _ _ _ _ _ (p .0) (p .1) _ (omega arith) [] (f .before .before .before .side-codes .ensures) (f .four-at .ensures) (λ z. e .left (c .before .shared-bits .ensures ∙ z)))
     (c .if1 .came)
 
 add-c : tie.Need-add-c Inv-loop μ-loop
