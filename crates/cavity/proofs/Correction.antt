@@ -27,7 +27,7 @@ use Rattle.mesh.proofs.FaceNumbers.{face-cell, face-opposite, opposite<, face-e
 use Rattle.mesh.proofs.Held.{Holds, side-at, neighbour-holds, other-weight}
 use Rattle.cavity.specs.Cavity.{outer, inSet, base, grown, cavity, visible, coplanar, facesGood, cornersGood, marked, pruned, corrected, correctedCavity, cavityOf}
 use Rattle.locate.specs.Locate.{holds}
-use Rattle.cavity.specs.Starlike.{Seen, Starlike}
+use Rattle.cavity.specs.Inner.Star.{Exposed, StarShaped}
 use Rattle.cavity.proofs.Tests.{Outer, outer-of, outer-yes, visible-yes, coplanar-yes, holds-of, holds-yes, faces-good, corners-good}
 
 -- ---- the flags
@@ -187,11 +187,11 @@ module _ {X Y Z pc cc np n : ℕ} {t : Tables} (M : IsMesh X Y Z pc cc np n t) (
               holds-yes t p (across t f) (neighbour-holds M R f f< e p (held (cellOf f) b) (sym h)))) (q .free)
           by (inr (inr h)) d = absurd (<-irrefl (<-≤-trans h not-below))
 
-  pub corner-seen : (c i : ℕ) → inSet s c ≡ true → i < 4 → Seen t n p s (corner t c i)
+  pub corner-exposed : (c i : ℕ) → inSet s c ≡ true → i < 4 → Exposed t n p s (corner t c i)
   unfolding Holds
-  corner-seen c i e hi = go (split (inSet (base t n p) c))
+  corner-exposed c i e hi = go (split (inSet (base t n p) c))
     where
-      outside : (c i : ℕ) → inSet s c ≡ true → i < 4 → inSet (base t n p) c ≡ false → Seen t n p s (corner t c i)
+      outside : (c i : ℕ) → inSet s c ≡ true → i < 4 → inSet (base t n p) c ≡ false → Exposed t n p s (corner t c i)
       outside c i e hi b = corners-good t n p s c i (and-right (facesGood t p s c) (cornersGood t n p s c) (good c e b)) hi
 
       module-c : c < n
@@ -206,11 +206,11 @@ module _ {X Y Z pc cc np n : ℕ} {t : Tables} (M : IsMesh X Y Z pc cc np n t) (
           apart : (c i : ℕ) → c < n → i < 4 → p ≢ cornerAt t c i
           apart c i h k = unfold cornerAt in new (corner t c i) (M .corner< c i h k)
 
-      go : (inSet (base t n p) c ≡ true) ⊎ (inSet (base t n p) c ≡ false) → Seen t n p s (corner t c i)
+      go : (inSet (base t n p) c ≡ true) ⊎ (inSet (base t n p) c ≡ false) → Exposed t n p s (corner t c i)
       go (inr b) = outside c i e hi b
       go (inl b) = at (away b)
         where
-          at : (j : ℕ) × (j < 4) × ((j ≢ i) × (pos 0 <ℤ volume (replaced (cornerAt t c) j p))) → Seen t n p s (corner t c i)
+          at : (j : ℕ) × (j < 4) × ((j ≢ i) × (pos 0 <ℤ volume (replaced (cornerAt t c) j p))) → Exposed t n p s (corner t c i)
           at w = by (split (inSet s (across t f)))
             where
               f : ℕ
@@ -231,9 +231,9 @@ module _ {X Y Z pc cc np n : ℕ} {t : Tables} (M : IsMesh X Y Z pc cc np n t) (
               on : OnFace t f (corner t c i)
               on = record { place = i; place< = hi; off = off; is = ap (λ x. corner t x i) cell-is }
 
-              by : (inSet s (across t f) ≡ true) ⊎ (inSet s (across t f) ≡ false) → Seen t n p s (corner t c i)
-              by (inr g) = record { face = f; face< = f<; seen = visible-yes t p s f (outer-yes t s f (ap (inSet s) cell-is ∙ e) g) front; on = on }
-              by (inl g) = subst (Seen t n p s) same (outside (cellOf (mate t f)) (shared .place) (ap (inSet s) far ∙ g) (shared .place<) not-base)
+              by : (inSet s (across t f) ≡ true) ⊎ (inSet s (across t f) ≡ false) → Exposed t n p s (corner t c i)
+              by (inr g) = record { face = f; face< = f<; face-visible = visible-yes t p s f (outer-yes t s f (ap (inSet s) cell-is ∙ e) g) front; on = on }
+              by (inl g) = subst (Exposed t n p s) same (outside (cellOf (mate t f)) (shared .place) (ap (inSet s) far ∙ g) (shared .place<) not-base)
                 where
                   real : across t f ≢ none
                   real = omega (arith, inside (across t f) g, few M R)
@@ -288,10 +288,10 @@ module _ {X Y Z pc cc np n : ℕ} {t : Tables} (M : IsMesh X Y Z pc cc np n t) (
   unfolding correctedCavity
   last-good c e b = unmarked-good t n p (base t n p) last c e b (corrected-unmarked t n p (base t n p) first first-long c e)
 
-  pub corrected-starlike : Starlike t n p last
-  corrected-starlike = record {
+  pub corrected-star-shaped : StarShaped t n p last
+  corrected-star-shaped = record {
     long = last-long;
     faces = outer-good M R p new last last-long last-has last-good;
-    corners = corner-seen M R p new last last-long last-has last-good;
+    corners = corner-exposed M R p new last last-long last-has last-good;
     some = (c₀, last-has c₀ some);
   }

@@ -24,7 +24,8 @@ use Rattle.mesh.specs.Tables.{Tables}
 use Rattle.cavity.specs.declared.Gathered.{Gathered}
 use Rattle.cavity.specs.Answers.{Answers}
 use Rattle.cavity.specs.Cavity.{inSet}
-use Rattle.cavity.specs.Inner.{inside, Listed, withCell, Lowest, Growing, Grew, Neighbour, Joined}
+use Rattle.cavity.specs.Inner.{inside, Enumerated}
+use Rattle.cavity.specs.Inner.Growth.{withCell, Lowest, Growing, Grew, Neighbour, InsideIfYes}
 
 -- ---- the least
 
@@ -115,12 +116,12 @@ module _ (st : List ℕ) (c kind : ℕ) (c< : c < length st) (above : 0 < kind) 
 
 -- ---- a cell joins
 
-pub size≤ : {n : ℕ} {st li : List ℕ} {size : ℕ} → Listed n st li size → size ≤ n
+pub size≤ : {n : ℕ} {st li : List ℕ} {size : ℕ} → Enumerated n st li size → size ≤ n
 size≤ {n} {st} L = omega (arith, L .counted, count-le n (inside st))
 
 module _ {T : ℕ → Float} {n : ℕ} {b : List Bool} {st li : List ℕ} {g : Gathered} (G : Growing T n b st li g)
     (n≤ : n ≤ 4096) (c : ℕ) (c< : c < n) (out : inside st c ≡ false) where
-  L : Listed n st li (g .size)
+  L : Enumerated n st li (g .size)
   L = G .list
 
   in-state : c < length st
@@ -176,8 +177,8 @@ module _ {T : ℕ → Float} {n : ℕ} {b : List Bool} {st li : List ℕ} {g : G
         go (inl q) = (g .size, omega arith, last ∙ sym q)
         go (inr q) = let f = L .all k h (q .1) in (f .0, omega (arith, f .1), old (f .0) (f .1) ∙ f .2)
 
-    listed-more : Listed n st′ li′ (g .size + 1)
-    listed-more = record {
+    enumerated-more : Enumerated n st′ li′ (g .size + 1)
+    enumerated-more = record {
       states = length-set st c kind ∙ L .states;
       entries = length-set li (g .size) c ∙ L .entries;
       counted = more kind above ∙ omega (arith, L .counted);
@@ -285,9 +286,9 @@ module _ {T : ℕ → Float} {n : ℕ} {b : List Bool} {st li : List ℕ} {g : G
                           split-out (inr r) = clash (below-then W a k c (O .at<) h c< q r) (sv f)
                   number (no l) = subst (Lowest T n st′) (higher-number g c (T c) d e f (omega arith)) (old-lowest O (vs e) (λ m. absurd (l m)))
 
-      pub joined : Growing T n b st′ li′ (withCell g c (T c))
-      joined = record {
-        list = subst (Listed n st′ li′) (sym (with-size g c (T c))) listed-more;
+      pub growing-more : Growing T n b st′ li′ (withCell g c (T c))
+      growing-more = record {
+        list = subst (Enumerated n st′ li′) (sym (with-size g c (T c))) enumerated-more;
         states = states-more;
         lowest = λ h. lowest-more;
       }
@@ -321,6 +322,6 @@ grew-then A B = record {
   keeps = λ c h e. B .keeps c h (A .keeps c h e);
 }
 
-pub joined-stays : (a : Answers) (t : Tables) (p : Position) (d : ℕ) {n : ℕ} {st li st′ li′ : List ℕ} {size size′ : ℕ} →
-    Neighbour a t p n d → Grew n st li size st′ li′ size′ → Joined a t p st d → Joined a t p st′ d
-joined-stays a t p d N G J real y = G .keeps d (N real .0) (J real y)
+pub inside-stays : (a : Answers) (t : Tables) (p : Position) (d : ℕ) {n : ℕ} {st li st′ li′ : List ℕ} {size size′ : ℕ} →
+    Neighbour a t p n d → Grew n st li size st′ li′ size′ → InsideIfYes a t p st d → InsideIfYes a t p st′ d
+inside-stays a t p d N G J real y = G .keeps d (N real .0) (J real y)

@@ -5,10 +5,12 @@ use mathlib.Core.Logic.{_≢_, _⊎_, inl, inr}
 use mathlib.Core.Path.{_≡_, refl, sym, ap, _∙_, subst}
 use mathlib.Core.List.{List}
 use native.Mathlib.Omega.{arith}
+use lib.Dec.{eqb}
 use lib.ListN.{length}
+use borrow.Author.Tests.{eq-eqb, eqb-true}
 use lib.Seq.{ext-getD}
 use Rattle.arith.specs.Table.{anyBelow}
-use Rattle.arith.proofs.Flags.{flag-below, and-left, and-right, and-intro, or-cases, or-left, or-right}
+use Rattle.arith.proofs.Flags.{bool-ext, flag-below, and-left, and-right, and-intro, or-cases, or-left, or-right}
 use Rattle.arith.proofs.Tables.{tabulate-length, tabulate-at, any-found, any-intro, Found}
 use Rattle.arith.proofs.Settling.{iterate-keeps, setting-settles}
 use Rattle.geometry.specs.declared.Position.{Position}
@@ -19,6 +21,38 @@ use Rattle.mesh.proofs.Faces.{few, mated, mate<}
 use Rattle.mesh.proofs.FaceNumbers.{face-cell, opposite<, face-eq}
 use Rattle.cavity.specs.Cavity.{inSet, grown, cavity}
 use Rattle.cavity.proofs.Correction.{cavity-long}
+
+-- in a mesh a cell has a cell of s across one of its faces just where a cell of s has it across one of its own
+pub either-way : {X Y Z pc cc np n : ℕ} {t : Tables} → IsMesh X Y Z pc cc np n t → Room pc cc t → (s : List Bool) → length s ≡ n → (c : ℕ) → c < n →
+    anyBelow 4 (λ k. inSet s (across t (4 * c + k))) ≡ anyBelow (4 * n) (λ f. inSet s (cellOf f) && eqb (across t f) c)
+either-way {n = n} {t} M R s long c c< = bool-ext (anyBelow 4 near) (anyBelow (4 * n) names) there back
+  where
+    near : ℕ → Bool
+    near k = inSet s (across t (4 * c + k))
+
+    names : ℕ → Bool
+    names f = inSet s (cellOf f) && eqb (across t f) c
+
+    there : anyBelow 4 near ≡ true → anyBelow (4 * n) names ≡ true
+    there e =
+        let r = any-found 4 near e in
+        let f : ℕ = 4 * c + r .at in
+        let f< : f < 4 * n = omega (arith, r .below) in
+        let real : across t f ≢ none = omega (arith, flag-below s (across t f) (r .passes), few M R) in
+        let m = mated M R f f< real in
+        any-intro (4 * n) names (mate t f) (mate< M R f f< real)
+        (and-intro (ap (inSet s) (m .far-cell) ∙ r .passes) (eq-eqb (across t (mate t f)) c (m .back ∙ face-cell c (r .at) (r .below))))
+
+    back : anyBelow (4 * n) names ≡ true → anyBelow 4 near ≡ true
+    back e =
+        let r = any-found (4 * n) names e in
+        let f = r .at in
+        let here = eqb-true (across t f) c (and-right (inSet s (cellOf f)) (eqb (across t f) c) (r .passes)) in
+        let real : across t f ≢ none = omega (arith, here, few M R) in
+        let m = mated M R f (r .below) real in
+        any-intro 4 near (opposite (mate t f)) (opposite< (mate t f))
+        (ap (λ g. inSet s (across t g)) (ap (λ d. 4 * d + opposite (mate t f)) (sym (m .far-cell ∙ here)) ∙ face-eq (mate t f)) ∙
+        (ap (inSet s) (m .back) ∙ and-left (inSet s (cellOf f)) (eqb (across t f) c) (r .passes)))
 
 module _ {X Y Z pc cc np n : ℕ} {t : Tables} (M : IsMesh X Y Z pc cc np n t) (R : Room pc cc t) (yes? : ℕ → Bool) (b : List Bool) (long : length b ≡ n) where
   abbrev joins : List Bool → ℕ → Bool

@@ -2,7 +2,7 @@
 pub mod Tests
 pub mod Correction
 pub mod Growth
-pub mod Meshes
+pub mod Answering
 pub mod Gathering
 pub mod Visiting
 pub mod Marking

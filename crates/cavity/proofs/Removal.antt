@@ -18,15 +18,17 @@ use Rattle.arith.proofs.Settling.{iterate-suc}
 use Rattle.arith.proofs.Counting.{count-added, count-cong, count-le}
 use Rattle.geometry.specs.declared.Position.{Position}
 use Rattle.geometry.specs.Volume.{InRange}
-use Rattle.mesh.specs.Tables.{Tables}
-use Rattle.mesh.specs.Inner.{HasCell, tables, fourAt}
+use Rattle.mesh.specs.Tables.{Tables, tables}
+use Rattle.mesh.specs.Inner.{HasCell, fourAt, SomeMesh}
 use Rattle.locate.specs.Locate.{holds}
 use Rattle.cavity.specs.declared.Gathered.{Gathered}
-use Rattle.cavity.specs.Answers.{Answers, isYes}
+use Rattle.cavity.specs.Answers.{Answers, saysYes}
 use Rattle.cavity.specs.Cavity.{inSet, base, cavityOf, marked, pruned, corrected, correctedCavity, cavitySize}
-use Rattle.cavity.specs.Inner.{MeshOf, inside, setOf, Listed, Correctable, Sighted, cellStays, Settled, Round, Inspected, Scanned, Reached, Hollow}
+use Rattle.cavity.specs.Inner.{inside, setOf, Enumerated, Inspected, CavityFound}
+use Rattle.cavity.specs.Inner.Correction.{Correctable, InspectedTo, cellStays, KeptOrRemoved, Round}
+use Rattle.cavity.specs.Inner.Growth.{Scanned, Reached}
 use Rattle.cavity.proofs.Correction.{base-at, corrected-stops}
-use Rattle.cavity.proofs.Meshes.{cells-few, has-corners, corner-mark}
+use Rattle.mesh.proofs.Reading.{cells-few, has-corners, corner-mark}
 use Rattle.cavity.proofs.Gathering.{size≤}
 use Rattle.cavity.proofs.Visiting.{set-at, set-long, unheld, held, least-is}
 use Rattle.cavity.proofs.Rounds.{stays-is, stays-base, stays-same}
@@ -54,7 +56,7 @@ last-or P i old new k h = go (ℕ-discrete k i)
     go (yes q) = subst P (sym q) new
     go (no d) = old k (omega arith)
 
-module _ {n : ℕ} {st₀ li₀ : List ℕ} {size : ℕ} (L : Listed n st₀ li₀ size) (n≤ : n ≤ 4096) (stay : ℕ → Bool) where
+module _ {n : ℕ} {st₀ li₀ : List ℕ} {size : ℕ} (L : Enumerated n st₀ li₀ size) (n≤ : n ≤ 4096) (stay : ℕ → Bool) where
   pub prune-start : Pruning n stay st₀ li₀ size 0 st₀ li₀ 0
   prune-start = record {
     states = L .states;
@@ -141,7 +143,7 @@ module _ {n : ℕ} {st₀ li₀ : List ℕ} {size : ℕ} (L : Listed n st₀ li�
             count-added n (inside (set st c 0)) (inside st) c (L .below i i<) (ap (ltb 0) (getD-set-same st c 0 0 in-state)) was
             (λ k l d. sym (ap (ltb 0) (getD-set-other st c k 0 0 d)))
 
-    pub prune-step : {st′ li′ : List ℕ} {kept′ : ℕ} (b : Bool) → b ≡ stay c → Settled b c st li kept st′ li′ kept′ → Pruning n stay st₀ li₀ size (i + 1) st′ li′ kept′
+    pub prune-step : {st′ li′ : List ℕ} {kept′ : ℕ} (b : Bool) → b ≡ stay c → KeptOrRemoved b c st li kept st′ li′ kept′ → Pruning n stay st₀ li₀ size (i + 1) st′ li′ kept′
     prune-step true e Q = rw (Q .count, Q .list, Q .state) (keeps (sym e))
     prune-step false e Q = rw (Q .count, Q .list, Q .state) (drops (sym e))
 
@@ -164,7 +166,7 @@ module _ {n : ℕ} {st₀ li₀ : List ℕ} {size : ℕ} (L : Listed n st₀ li�
         let q = sym (pruned-at c h) ∙ e in
         (and-left (inside st₀ c) (stay c) q, and-right (inside st₀ c) (stay c) q)
 
-    pruned-list : Listed n st li kept
+    pruned-list : Enumerated n st li kept
     pruned-list = record {
       states = P .states;
       entries = P .entries;
@@ -209,8 +211,8 @@ module _ {n : ℕ} {st₀ li₀ : List ℕ} {size : ℕ} (L : Listed n st₀ li�
 
 -- ---- a round, and the rounds
 
-module _ {ps cs ns : List ℕ} {np n : ℕ} (M : MeshOf (tables ps cs ns) np n) (p : Position) {st li : List ℕ} {size : ℕ}
-    (C : Correctable n (base (tables ps cs ns) n p) st li size) {fa seen : List ℕ} (S : Sighted (tables ps cs ns) n p st li size fa seen) where
+module _ {ps cs ns : List ℕ} {np n : ℕ} (M : SomeMesh (tables ps cs ns) np n) (p : Position) {st li : List ℕ} {size : ℕ}
+    (C : Correctable n (base (tables ps cs ns) n p) st li size) {fa exposed : List ℕ} (S : InspectedTo (tables ps cs ns) n p st li size fa exposed) where
   abbrev t : Tables
   t = tables ps cs ns
 
@@ -219,12 +221,12 @@ module _ {ps cs ns : List ℕ} {np n : ℕ} (M : MeshOf (tables ps cs ns) np n) 
 
   -- which cells stay, as the round finds the cavity
   abbrev pub staying : ℕ → Bool
-  staying c = cellStays st fa seen (fourAt cs c) c
+  staying c = cellStays st fa exposed (fourAt cs c) c
 
   pub round-is : {st′ li′ : List ℕ} {kept : ℕ} → Pruning n staying st li size size st′ li′ kept → Round t n p st size st′ li′ kept
   round-is P = record {
     left = pruned-correctable (C .list) (cells-few M) staying P b C
-        (λ c h e. sym (stays-base st fa seen (fourAt cs c) c (C .states c h (C .based c h e) ∙ ap (λ x. cond x 2 1) e)));
+        (λ c h e. sym (stays-base st fa exposed (fourAt cs c) c (C .states c h (C .based c h e) ∙ ap (λ x. cond x 2 1) e)));
     set = pruned-set (C .list) (cells-few M) staying P t p b (λ c h e. stays-is M p (C .list) S b (C .states) c h e);
     fewer = P .kept≤;
     same = P .same;
@@ -280,17 +282,17 @@ pub prune-ends : {n : ℕ} {stay : ℕ → Bool} {st₀ li₀ : List ℕ} {size 
 prune-ends {n} {stay} {st₀} {li₀} {size} {i} {st} {li} {kept} e P = subst (λ k. Pruning n stay st₀ li₀ size k st li kept) e P
 
 -- the listed cell at place i, as the code meets it
-module _ (cs fa seen : List ℕ) {n : ℕ} {st₀ li₀ : List ℕ} {size : ℕ} (L : Listed n st₀ li₀ size) (n≤ : n ≤ 4096)
-    {i : ℕ} {st li : List ℕ} {kept : ℕ} (P : Pruning n (λ c. cellStays st₀ fa seen (fourAt cs c) c) st₀ li₀ size i st li kept) (i< : i < size) where
+module _ (cs fa exposed : List ℕ) {n : ℕ} {st₀ li₀ : List ℕ} {size : ℕ} (L : Enumerated n st₀ li₀ size) (n≤ : n ≤ 4096)
+    {i : ℕ} {st li : List ℕ} {kept : ℕ} (P : Pruning n (λ c. cellStays st₀ fa exposed (fourAt cs c) c) st₀ li₀ size i st li kept) (i< : i < size) where
   at : getD li i 0 ≡ getD li₀ i 0
   at = P .ahead i (omega arith) i<
 
   at< : getD li i 0 < n
   at< = subst (λ c. c < n) (sym at) (L .below i i<)
 
-  pub prune-at : {ps ns : List ℕ} {np : ℕ} → MeshOf (tables ps cs ns) np n → length fa ≡ 4096 → length seen ≡ 1024 →
+  pub prune-at : {ps ns : List ℕ} {np : ℕ} → SomeMesh (tables ps cs ns) np n → length fa ≡ 4096 → length exposed ≡ 1024 →
       (i < length li) × (kept < length li) × (getD li i 0 < 4096) × HasCell (getD li i 0) cs × (getD li i 0 < length st) × (getD li i 0 < length fa) × (kept < 4096)
-      × ((j : ℕ) → j < 4 → getD (fourAt cs (getD li i 0)) j 0 < length seen)
+      × ((j : ℕ) → j < 4 → getD (fourAt cs (getD li i 0)) j 0 < length exposed)
   prune-at M hf hs =
       let z = size≤ L in (
         omega (arith, n≤, z, P .entries),
@@ -304,28 +306,28 @@ module _ (cs fa seen : List ℕ) {n : ℕ} {st₀ li₀ : List ℕ} {size : ℕ}
       )
 
   pub prune-step-at : {st′ li′ : List ℕ} {kept′ : ℕ} →
-      Settled (cellStays st fa seen (fourAt cs (getD li i 0)) (getD li i 0)) (getD li i 0) st li kept st′ li′ kept′ →
-      Pruning n (λ c. cellStays st₀ fa seen (fourAt cs c) c) st₀ li₀ size (i + 1) st′ li′ kept′
+      KeptOrRemoved (cellStays st fa exposed (fourAt cs (getD li i 0)) (getD li i 0)) (getD li i 0) st li kept st′ li′ kept′ →
+      Pruning n (λ c. cellStays st₀ fa exposed (fourAt cs c) c) st₀ li₀ size (i + 1) st′ li′ kept′
   prune-step-at {st′} {li′} {kept′} Q =
-      prune-step L n≤ (λ c. cellStays st₀ fa seen (fourAt cs c) c) P i<
-      (cellStays st fa seen (fourAt cs (getD li i 0)) (getD li i 0))
-      (ap (λ c. cellStays st fa seen (fourAt cs c) c) at ∙ stays-same st st₀ fa seen (fourAt cs (getD li₀ i 0)) (getD li₀ i 0) (P .todo i (omega arith) i<))
-      (subst (λ c. Settled (cellStays st fa seen (fourAt cs (getD li i 0)) (getD li i 0)) c st li kept st′ li′ kept′) at Q)
+      prune-step L n≤ (λ c. cellStays st₀ fa exposed (fourAt cs c) c) P i<
+      (cellStays st fa exposed (fourAt cs (getD li i 0)) (getD li i 0))
+      (ap (λ c. cellStays st fa exposed (fourAt cs c) c) at ∙ stays-same st st₀ fa exposed (fourAt cs (getD li₀ i 0)) (getD li₀ i 0) (P .todo i (omega arith) i<))
+      (subst (λ c. KeptOrRemoved (cellStays st fa exposed (fourAt cs (getD li i 0)) (getD li i 0)) c st li kept st′ li′ kept′) at Q)
 
 -- what a loop keeps that does not see n
 abbrev pub PruningAll : List ℕ → List ℕ → List ℕ → List ℕ → List ℕ → ℕ → ℕ → List ℕ → List ℕ → ℕ → Type 0
-PruningAll cs fa seen st₀ li₀ size i st li kept =
-    (n : ℕ) → n ≤ 4096 → Listed n st₀ li₀ size → Pruning n (λ c. cellStays st₀ fa seen (fourAt cs c) c) st₀ li₀ size i st li kept
+PruningAll cs fa exposed st₀ li₀ size i st li kept =
+    (n : ℕ) → n ≤ 4096 → Enumerated n st₀ li₀ size → Pruning n (λ c. cellStays st₀ fa exposed (fourAt cs c) c) st₀ li₀ size i st li kept
 
 -- ---- the cavity as a whole
 
-module _ {ps cs ns : List ℕ} {np n : ℕ} (M : MeshOf (tables ps cs ns) np n) (a : Answers) {p : Position} (r : InRange p)
+module _ {ps cs ns : List ℕ} {np n : ℕ} (M : SomeMesh (tables ps cs ns) np n) (a : Answers) {p : Position} (r : InRange p)
     {st₀ li₀ : List ℕ} {g₀ : Gathered} (S : Scanned a (tables ps cs ns) p n n st₀ li₀ g₀) where
   abbrev u : Tables
   u = tables ps cs ns
 
-  pub hollow-none : {fa : List ℕ} (x : Float) → length fa ≡ 4096 → g₀ .size ≡ 0 → Hollow a u p n st₀ li₀ fa record { before = 0; after = 0; least = x }
-  hollow-none x l e = record {
+  pub found-none : {fa : List ℕ} (x : Float) → length fa ≡ 4096 → g₀ .size ≡ 0 → CavityFound a u p n st₀ li₀ fa record { before = 0; after = 0; least = x }
+  found-none x l e = record {
     states = S .growing .list .states;
     entries = S .growing .list .entries;
     codes = l;
@@ -338,7 +340,7 @@ module _ {ps cs ns : List ℕ} {np n : ℕ} (M : MeshOf (tables ps cs ns) np n) 
     least-is = λ d. absurd (d refl);
   }
 
-  module _ (d : g₀ .size ≢ 0) {st₁ li₁ : List ℕ} {g : Gathered} (G : Reached a u p n st₁ li₁ g) (all : setOf n st₁ ≡ cavityOf u n p (isYes a u p)) where
+  module _ (d : g₀ .size ≢ 0) {st₁ li₁ : List ℕ} {g : Gathered} (G : Reached a u p n st₁ li₁ g) (all : setOf n st₁ ≡ cavityOf u n p (saysYes a u p)) where
     pub grown-correctable : Correctable n (base u n p) st₁ li₁ (g .size)
     grown-correctable = record { list = G .growing .list; states = G .growing .states; based = G .based }
 
@@ -348,15 +350,15 @@ module _ {ps cs ns : List ℕ} {np n : ℕ} (M : MeshOf (tables ps cs ns) np n) 
         let k = G .growing .list .all (f .at) (f .below) (G .based (f .at) (f .below) (base-at u n p (f .at) (f .below) ∙ f .passes)) in
         omega (arith, k .1, e)
 
-    size-is : {st li : List ℕ} {size : ℕ} {s : List Bool} → Listed n st li size → setOf n st ≡ s → size ≡ cavitySize n s
+    size-is : {st li : List ℕ} {size : ℕ} {s : List Bool} → Enumerated n st li size → setOf n st ≡ s → size ≡ cavitySize n s
     unfolding cavitySize
     size-is {st} {li} {size} {s} L e = sym (L .counted) ∙ (count-cong n (inside st) (inSet (setOf n st)) (λ k h. sym (set-at n st k h)) ∙ ap (λ s. countBelow n (inSet s)) e)
 
-    pub hollow-found : {st li fa : List ℕ} {after : ℕ} → Listed n st li after → length fa ≡ 4096 → setOf n st ≡ corrected u n p (base u n p) (setOf n st₁) →
-        Inspected u n p (setOf n st) st fa → Hollow a u p n st li fa record { before = g .size; after = after; least = g .least }
+    pub found-cavity : {st li fa : List ℕ} {after : ℕ} → Enumerated n st li after → length fa ≡ 4096 → setOf n st ≡ corrected u n p (base u n p) (setOf n st₁) →
+        Inspected u n p (setOf n st) st fa → CavityFound a u p n st li fa record { before = g .size; after = after; least = g .least }
     unfolding correctedCavity
-    hollow-found {st} {li} {fa} {after} L l e I =
-        let is : setOf n st ≡ corrected u n p (base u n p) (cavityOf u n p (isYes a u p)) = e ∙ ap (corrected u n p (base u n p)) all in
+    found-cavity {st} {li} {fa} {after} L l e I =
+        let is : setOf n st ≡ corrected u n p (base u n p) (cavityOf u n p (saysYes a u p)) = e ∙ ap (corrected u n p (base u n p)) all in
         record {
           states = L .states;
           entries = L .entries;

@@ -1,4 +1,4 @@
--- A round of the correction: every cell's faces and the points seen, then the cells that stay.
+-- A round of the correction: every cell's faces and the points exposed, then the cells that stay.
 use Prim.Native.Nat.{ℕ, _+_, _*_, _≤_, _<_}
 use mathlib.Core.Bool.{Bool, true, false, not, cond, _&&_, _||_}
 use mathlib.Core.List.{List}
@@ -9,25 +9,24 @@ use native.Mathlib.Decide.{decLt}
 use lib.Dec.{eqb, ltb}
 use lib.ListN.{length, getD, set, length-set}
 use lib.Seq.{getD-set-same, getD-set-other}
-use mir.Val.{boolByte}
 use borrow.Author.Tests.{eq-eqb, ne-eqb, eqb-true, eqb-false, lt-ltb, le-ltb, not-true}
-use Rattle.arith.specs.Table.{anyBelow, allBelow}
+use Rattle.arith.specs.Table.{anyBelow}
 use Rattle.arith.proofs.Flags.{bool-ext, and-left, and-right, and-intro}
 use Rattle.arith.proofs.Tables.{all-cong, all-fails, any-found, any-intro, Found, below-more}
 use Rattle.geometry.specs.declared.Position.{Position}
-use Rattle.mesh.specs.Tables.{Tables, cellOf, opposite, corner, faceHas}
-use Rattle.mesh.specs.Inner.{tables, fourAt}
-use Rattle.mesh.proofs.Numbers.{four-corner, byte≤}
+use Rattle.mesh.specs.Tables.{Tables, cellOf, opposite, corner, faceHas, tables}
+use Rattle.mesh.specs.Inner.{fourAt, SomeMesh}
+use Rattle.mesh.proofs.Numbers.{four-corner}
 use Rattle.mesh.proofs.FaceNumbers.{face-cell, face-opposite, face-eq, opposite<}
 use Rattle.cavity.specs.Cavity.{inSet, visible, facesGood, cornersGood, marked}
-use Rattle.cavity.specs.Inner.{MeshOf, inside, setOf, Listed, faceKinds, kindsCode, withFaces, facesCode, Inspected, seenIn, Sighted, allSeen, cellStays, Settled}
+use Rattle.cavity.specs.Inner.{inside, setOf, Enumerated, facesCode, Inspected}
+use Rattle.cavity.specs.Inner.Correction.{faceKinds, kindsCode, withFaces, exposedIn, InspectedTo, allExposed, cellStays, KeptOrRemoved}
 use Rattle.cavity.proofs.Tests.{visible-of}
-use Rattle.cavity.proofs.Meshes.{cells-few, corner-mark}
+use Rattle.mesh.proofs.Reading.{cells-few, corner-mark}
 use Rattle.cavity.proofs.Visiting.{set-at, in-set}
-use Rattle.cavity.proofs.Gathering.{state-in}
-use Rattle.cavity.proofs.Marking.{kind-visible, code-is, Sight, lit-still, lit-by, lit-from, faces-length}
+use Rattle.cavity.proofs.Marking.{kind-visible, code-is, code-good, ExposedBy, exposed-still, exposed-by, exposed-from, faces-length}
 
-module _ {ps cs ns : List ℕ} {np n : ℕ} (M : MeshOf (tables ps cs ns) np n) (p : Position) {st li : List ℕ} {size : ℕ} (L : Listed n st li size) where
+module _ {ps cs ns : List ℕ} {np n : ℕ} (M : SomeMesh (tables ps cs ns) np n) (p : Position) {st li : List ℕ} {size : ℕ} (L : Enumerated n st li size) where
   abbrev t : Tables
   t = tables ps cs ns
 
@@ -37,31 +36,31 @@ module _ {ps cs ns : List ℕ} {np n : ℕ} (M : MeshOf (tables ps cs ns) np n) 
   -- ---- the sweep
 
   -- a visible face of cell c with the point v
-  shows : ℕ → ℕ → Bool
-  shows c v = anyBelow 4 (λ k. visible t p s (4 * c + k) && faceHas t (4 * c + k) v)
+  exposedFrom : ℕ → ℕ → Bool
+  exposedFrom c v = anyBelow 4 (λ k. visible t p s (4 * c + k) && faceHas t (4 * c + k) v)
 
   module _ (c : ℕ) (c< : c < n) (in? : inside st c ≡ true) where
     abbrev kinds : List ℕ
     kinds = faceKinds t p st c
 
-    sees : (k : ℕ) → k < 4 → eqb (getD kinds k 0) 1 ≡ visible t p s (4 * c + k)
-    sees = kind-visible t n (cells-few M) p st (M .mesh .across<) c c< in?
+    kinds-see : (k : ℕ) → k < 4 → eqb (getD kinds k 0) 1 ≡ visible t p s (4 * c + k)
+    kinds-see = kind-visible t n (cells-few M) p st (M .mesh .across<) c c< in?
 
-    to-sight : (v : ℕ) → shows c v ≡ true → Sight kinds (fourAt cs c) v
-    unfolding shows faceHas
-    to-sight v e = go (any-found 4 (λ k. visible t p s (4 * c + k) && faceHas t (4 * c + k) v) e)
+    to-exposed : (v : ℕ) → exposedFrom c v ≡ true → ExposedBy kinds (fourAt cs c) v
+    unfolding exposedFrom faceHas
+    to-exposed v e = go (any-found 4 (λ k. visible t p s (4 * c + k) && faceHas t (4 * c + k) v) e)
       where
-        go : Found 4 (λ k. visible t p s (4 * c + k) && faceHas t (4 * c + k) v) → Sight kinds (fourAt cs c) v
+        go : Found 4 (λ k. visible t p s (4 * c + k) && faceHas t (4 * c + k) v) → ExposedBy kinds (fourAt cs c) v
         go f = by (any-found 4 (λ j. not (eqb j (opposite (4 * c + f .at))) && eqb (corner t (cellOf (4 * c + f .at)) j) v) (and-right (visible t p s (4 * c + f .at)) (faceHas t (4 * c + f .at) v) (f .passes)))
           where
             i : ℕ
             i = f .at
 
-            by : Found 4 (λ j. not (eqb j (opposite (4 * c + i))) && eqb (corner t (cellOf (4 * c + i)) j) v) → Sight kinds (fourAt cs c) v
+            by : Found 4 (λ j. not (eqb j (opposite (4 * c + i))) && eqb (corner t (cellOf (4 * c + i)) j) v) → ExposedBy kinds (fourAt cs c) v
             by g = record {
               face = i;
               face< = f .below;
-              visible? = eqb-true (getD kinds i 0) 1 (sees i (f .below) ∙ and-left (visible t p s (4 * c + i)) (faceHas t (4 * c + i) v) (f .passes));
+              visible? = eqb-true (getD kinds i 0) 1 (kinds-see i (f .below) ∙ and-left (visible t p s (4 * c + i)) (faceHas t (4 * c + i) v) (f .passes));
               place = g .at;
               place< = g .below;
               off = λ q. eqb-false (g .at) (opposite (4 * c + i)) (not-true (eqb (g .at) (opposite (4 * c + i))) (and-left (not (eqb (g .at) (opposite (4 * c + i)))) (eqb (corner t (cellOf (4 * c + i)) (g .at)) v) (g .passes))) (q ∙ sym (face-opposite c i (f .below)));
@@ -69,11 +68,11 @@ module _ {ps cs ns : List ℕ} {np n : ℕ} (M : MeshOf (tables ps cs ns) np n) 
                   eqb-true (corner t (cellOf (4 * c + i)) (g .at)) v (and-right (not (eqb (g .at) (opposite (4 * c + i)))) (eqb (corner t (cellOf (4 * c + i)) (g .at)) v) (g .passes)));
             }
 
-    from-sight : (v : ℕ) → Sight kinds (fourAt cs c) v → shows c v ≡ true
-    unfolding shows faceHas
-    from-sight v S =
+    from-exposed : (v : ℕ) → ExposedBy kinds (fourAt cs c) v → exposedFrom c v ≡ true
+    unfolding exposedFrom faceHas
+    from-exposed v S =
         any-intro 4 (λ k. visible t p s (4 * c + k) && faceHas t (4 * c + k) v) i (S .face<)
-        (and-intro (sym (sees i (S .face<)) ∙ eq-eqb (getD kinds i 0) 1 (S .visible?))
+        (and-intro (sym (kinds-see i (S .face<)) ∙ eq-eqb (getD kinds i 0) 1 (S .visible?))
         (any-intro 4 (λ j. not (eqb j (opposite (4 * c + i))) && eqb (corner t (cellOf (4 * c + i)) j) v) (S .place) (S .place<)
         (and-intro (ap not (ne-eqb (S .place) (opposite (4 * c + i)) (λ q. S .off (q ∙ face-opposite c i (S .face<)))))
         (eq-eqb (corner t (cellOf (4 * c + i)) (S .place)) v (ap (λ d. corner t d (S .place)) (face-cell c i (S .face<)) ∙ (sym (four-corner t c (S .place) (S .place<)) ∙ S .is))))))
@@ -84,17 +83,17 @@ module _ {ps cs ns : List ℕ} {np n : ℕ} (M : MeshOf (tables ps cs ns) np n) 
   abbrev shown : ℕ → ℕ → Bool
   shown v i = anyBelow 4 (λ k. visible t p s (4 * getD li i 0 + k) && faceHas t (4 * getD li i 0 + k) v)
 
-  seen-later : (h v : ℕ) → seenIn t p s li h v ≡ true → seenIn t p s li (h + 1) v ≡ true
-  unfolding seenIn
-  seen-later h v e = let f = any-found h (shown v) e in any-intro (h + 1) (shown v) (f .at) (omega (arith, f .below)) (f .passes)
+  exposed-later : (h v : ℕ) → exposedIn t p s li h v ≡ true → exposedIn t p s li (h + 1) v ≡ true
+  unfolding exposedIn
+  exposed-later h v e = let f = any-found h (shown v) e in any-intro (h + 1) (shown v) (f .at) (omega (arith, f .below)) (f .passes)
 
-  seen-here : (h v : ℕ) → shows (getD li h 0) v ≡ true → seenIn t p s li (h + 1) v ≡ true
-  unfolding seenIn shows
-  seen-here h v e = any-intro (h + 1) (shown v) h (omega arith) e
+  exposed-here : (h v : ℕ) → exposedFrom (getD li h 0) v ≡ true → exposedIn t p s li (h + 1) v ≡ true
+  unfolding exposedIn exposedFrom
+  exposed-here h v e = any-intro (h + 1) (shown v) h (omega arith) e
 
-  seen-cases : (h v : ℕ) → seenIn t p s li (h + 1) v ≡ true → (seenIn t p s li h v ≡ true) ⊎ (shows (getD li h 0) v ≡ true)
-  unfolding seenIn shows
-  seen-cases h v e = go (any-found (h + 1) (shown v) e)
+  exposed-cases : (h v : ℕ) → exposedIn t p s li (h + 1) v ≡ true → (exposedIn t p s li h v ≡ true) ⊎ (exposedFrom (getD li h 0) v ≡ true)
+  unfolding exposedIn exposedFrom
+  exposed-cases h v e = go (any-found (h + 1) (shown v) e)
     where
       go : Found (h + 1) (shown v) → (anyBelow h (shown v) ≡ true) ⊎ (shown v h ≡ true)
       go f = by (decLt (f .at) h)
@@ -103,16 +102,16 @@ module _ {ps cs ns : List ℕ} {np n : ℕ} (M : MeshOf (tables ps cs ns) np n) 
           by (yes l) = inl (any-intro h (shown v) (f .at) l (f .passes))
           by (no d) = let q : f .at ≡ h = omega (arith, f .below) in inr (ap (shown v) (sym q) ∙ f .passes)
 
-  pub sighted-more : (h : ℕ) → h < size → {fa seen fa′ seen′ : List ℕ} → Sighted t n p st li h fa seen →
+  pub inspected-more : (h : ℕ) → h < size → {fa exposed fa′ exposed′ : List ℕ} → InspectedTo t n p st li h fa exposed →
       fa′ ≡ set fa (getD li h 0) (kindsCode (faceKinds t p st (getD li h 0))) →
-      seen′ ≡ withFaces seen (faceKinds t p st (getD li h 0)) (fourAt cs (getD li h 0)) → Sighted t n p st li (h + 1) fa′ seen′
-  sighted-more h h< {fa} {seen} {fa′} {seen′} S ef es = record {
+      exposed′ ≡ withFaces 4 exposed (faceKinds t p st (getD li h 0)) (fourAt cs (getD li h 0)) → InspectedTo t n p st li (h + 1) fa′ exposed′
+  inspected-more h h< {fa} {exposed} {fa′} {exposed′} S ef es = record {
     codes = ap length ef ∙ (length-set fa c (kindsCode kinds) ∙ S .codes);
-    marks = ap length es ∙ (faces-length seen kinds (fourAt cs c) here 0 ∙ S .marks);
+    marks = ap length es ∙ (faces-length exposed kinds (fourAt cs c) here 0 4 (omega arith) ∙ S .marks);
     coded = below-more (λ k. getD fa′ (getD li k 0) 0 ≡ facesCode t p s (getD li k 0)) h
         (λ k l. ap (λ f. getD f (getD li k 0) 0) ef ∙ (getD-set-other fa c (getD li k 0) (kindsCode kinds) 0 (L .apart k h l h<) ∙ S .coded k l))
         (ap (λ f. getD f c 0) ef ∙ (getD-set-same fa c (kindsCode kinds) 0 (omega (arith, S .codes, c<, cells-few M)) ∙ code-is t n (cells-few M) p st (M .mesh .across<) c c< in?));
-    lit = λ v l. ap (λ f. ltb 0 (getD f v 0)) es ∙ bool-ext (ltb 0 (getD (withFaces seen kinds (fourAt cs c)) v 0)) (seenIn t p s li (h + 1) v) (there v l) (back v l);
+    exposed-is = λ v l. ap (λ f. ltb 0 (getD f v 0)) es ∙ bool-ext (ltb 0 (getD (withFaces 4 exposed kinds (fourAt cs c)) v 0)) (exposedIn t p s li (h + 1) v) (there v l) (back v l);
   }
     where
       c : ℕ
@@ -127,32 +126,32 @@ module _ {ps cs ns : List ℕ} {np n : ℕ} (M : MeshOf (tables ps cs ns) np n) 
       kinds : List ℕ
       kinds = faceKinds t p st c
 
-      here : (j : ℕ) → j < 4 → getD (fourAt cs c) j 0 < length seen
+      here : (j : ℕ) → j < 4 → getD (fourAt cs c) j 0 < length exposed
       here j l = omega (arith, corner-mark M c j c< l, S .marks)
 
-      there : (v : ℕ) → v < 1024 → ltb 0 (getD (withFaces seen kinds (fourAt cs c)) v 0) ≡ true → seenIn t p s li (h + 1) v ≡ true
-      there v l e = go (lit-from seen kinds (fourAt cs c) here v e)
+      there : (v : ℕ) → v < 1024 → ltb 0 (getD (withFaces 4 exposed kinds (fourAt cs c)) v 0) ≡ true → exposedIn t p s li (h + 1) v ≡ true
+      there v l e = go (exposed-from exposed kinds (fourAt cs c) here v 4 (omega arith) e)
         where
-          go : (ltb 0 (getD seen v 0) ≡ true) ⊎ Sight kinds (fourAt cs c) v → seenIn t p s li (h + 1) v ≡ true
-          go (inl q) = seen-later h v (sym (S .lit v l) ∙ q)
-          go (inr q) = seen-here h v (from-sight c c< in? v q)
+          go : (ltb 0 (getD exposed v 0) ≡ true) ⊎ ExposedBy kinds (fourAt cs c) v → exposedIn t p s li (h + 1) v ≡ true
+          go (inl q) = exposed-later h v (sym (S .exposed-is v l) ∙ q)
+          go (inr q) = exposed-here h v (from-exposed c c< in? v q)
 
-      back : (v : ℕ) → v < 1024 → seenIn t p s li (h + 1) v ≡ true → ltb 0 (getD (withFaces seen kinds (fourAt cs c)) v 0) ≡ true
-      back v l e = go (seen-cases h v e)
+      back : (v : ℕ) → v < 1024 → exposedIn t p s li (h + 1) v ≡ true → ltb 0 (getD (withFaces 4 exposed kinds (fourAt cs c)) v 0) ≡ true
+      back v l e = go (exposed-cases h v e)
         where
-          go : (seenIn t p s li h v ≡ true) ⊎ (shows c v ≡ true) → ltb 0 (getD (withFaces seen kinds (fourAt cs c)) v 0) ≡ true
-          go (inl q) = lit-still seen kinds (fourAt cs c) here v (S .lit v l ∙ q)
-          go (inr q) = lit-by seen kinds (fourAt cs c) here v (to-sight c c< in? v q)
+          go : (exposedIn t p s li h v ≡ true) ⊎ (exposedFrom c v ≡ true) → ltb 0 (getD (withFaces 4 exposed kinds (fourAt cs c)) v 0) ≡ true
+          go (inl q) = exposed-still exposed kinds (fourAt cs c) here v 4 (omega arith) (S .exposed-is v l ∙ q)
+          go (inr q) = let S = to-exposed c c< in? v q in exposed-by exposed kinds (fourAt cs c) here v 4 (omega arith) S (S .face<)
 
   -- after the sweep
 
-  module _ {fa seen : List ℕ} (S : Sighted t n p st li size fa seen) where
+  module _ {fa exposed : List ℕ} (S : InspectedTo t n p st li size fa exposed) where
     pub inspected : Inspected t n p s st fa
     inspected c h e = let k = L .all c h e in subst (λ c. getD fa c 0 ≡ facesCode t p s c) (k .2) (S .coded (k .0) (k .1))
 
-    seen-is : (v : ℕ) → v < 1024 → ltb 0 (getD seen v 0) ≡ anyBelow (4 * n) (λ f. visible t p s f && faceHas t f v)
-    unfolding seenIn
-    seen-is v l = S .lit v l ∙ bool-ext (anyBelow size (shown v)) (anyBelow (4 * n) any-face) there back
+    marked-is : (v : ℕ) → v < 1024 → ltb 0 (getD exposed v 0) ≡ anyBelow (4 * n) (λ f. visible t p s f && faceHas t f v)
+    unfolding exposedIn
+    marked-is v l = S .exposed-is v l ∙ bool-ext (anyBelow size (shown v)) (anyBelow (4 * n) any-face) there back
       where
         any-face : ℕ → Bool
         any-face f = visible t p s f && faceHas t f v
@@ -172,27 +171,19 @@ module _ {ps cs ns : List ℕ} {np n : ℕ} (M : MeshOf (tables ps cs ns) np n) 
             any-intro size (shown v) (k .0) (k .1)
             (any-intro 4 (λ j. visible t p s (4 * getD li (k .0) 0 + j) && faceHas t (4 * getD li (k .0) 0 + j) v) (opposite (f .at)) (opposite< (f .at)) (ap any-face q ∙ f .passes))
 
-    all-seen-is : (c : ℕ) → c < n → allSeen seen (fourAt cs c) ≡ cornersGood t n p s c
-    unfolding allSeen cornersGood
-    all-seen-is c h =
-        all-cong 4 (λ i. ltb 0 (getD seen (getD (fourAt cs c) i 0) 0)) (λ k. anyBelow (4 * n) (λ f. visible t p s f && faceHas t f (corner t c k)))
-        (λ i l. seen-is (getD (fourAt cs c) i 0) (corner-mark M c i h l) ∙ ap (λ v. anyBelow (4 * n) (λ f. visible t p s f && faceHas t f v)) (four-corner t c i l))
-
-    code-good : (c : ℕ) → ltb (facesCode t p s c) 16 ≡ facesGood t p s c
-    unfolding facesCode
-    code-good c = go (visible t p s (4 * c)) (visible t p s (4 * c + 1)) (visible t p s (4 * c + 2)) (visible t p s (4 * c + 3)) (facesGood t p s c)
-      where
-        go : (v₀ v₁ v₂ v₃ g : Bool) → ltb (boolByte v₀ + 2 * boolByte v₁ + 4 * boolByte v₂ + 8 * boolByte v₃ + 16 * boolByte (not g)) 16 ≡ g
-        go v₀ v₁ v₂ v₃ true = lt-ltb (boolByte v₀ + 2 * boolByte v₁ + 4 * boolByte v₂ + 8 * boolByte v₃ + 0) 16 (omega (arith, byte≤ v₀, byte≤ v₁, byte≤ v₂, byte≤ v₃))
-        go v₀ v₁ v₂ v₃ false = le-ltb (boolByte v₀ + 2 * boolByte v₁ + 4 * boolByte v₂ + 8 * boolByte v₃ + 16) 16 (omega arith)
+    all-exposed-is : (c : ℕ) → c < n → allExposed exposed (fourAt cs c) ≡ cornersGood t n p s c
+    unfolding allExposed cornersGood
+    all-exposed-is c h =
+        all-cong 4 (λ i. ltb 0 (getD exposed (getD (fourAt cs c) i 0) 0)) (λ k. anyBelow (4 * n) (λ f. visible t p s f && faceHas t f (corner t c k)))
+        (λ i l. marked-is (getD (fourAt cs c) i 0) (corner-mark M c i h l) ∙ ap (λ v. anyBelow (4 * n) (λ f. visible t p s f && faceHas t f v)) (four-corner t c i l))
 
     -- a cell of the cavity stays where it is not marked
     pub stays-is : (b : List Bool) → ((c : ℕ) → c < n → inside st c ≡ true → getD st c 0 ≡ cond (inSet b c) 2 1) →
-        (c : ℕ) → c < n → inside st c ≡ true → cellStays st fa seen (fourAt cs c) c ≡ not (marked t n p b s c)
+        (c : ℕ) → c < n → inside st c ≡ true → cellStays st fa exposed (fourAt cs c) c ≡ not (marked t n p b s c)
     unfolding cellStays marked
     stays-is b states c h e =
-        (λ i. eqb (states c h e i) 2 || (ltb (inspected c h e i) 16 && all-seen-is c h i)) ∙
-        rw (code-good c, set-at n st c h ∙ e) (go (inSet b c) (facesGood t p s c) (cornersGood t n p s c))
+        (λ i. eqb (states c h e i) 2 || (ltb (inspected c h e i) 16 && all-exposed-is c h i)) ∙
+        rw (code-good t p s c, set-at n st c h ∙ e) (go (inSet b c) (facesGood t p s c) (cornersGood t n p s c))
       where
         go : (x g k : Bool) → (eqb (cond x 2 1) 2 || (g && k)) ≡ not (not x && not (g && k))
         go true g k = refl
@@ -200,71 +191,56 @@ module _ {ps cs ns : List ℕ} {np n : ℕ} (M : MeshOf (tables ps cs ns) np n) 
         go false true false = refl
         go false false k = refl
 
-pub sighted-ends : {t : Tables} {n : ℕ} {p : Position} {st li : List ℕ} {h size : ℕ} {fa seen : List ℕ} → h ≡ size → Sighted t n p st li h fa seen → Sighted t n p st li size fa seen
-sighted-ends {t} {n} {p} {st} {li} {h} {size} {fa} {seen} e S = subst (λ k. Sighted t n p st li k fa seen) e S
+pub inspected-ends : {t : Tables} {n : ℕ} {p : Position} {st li : List ℕ} {h size : ℕ} {fa exposed : List ℕ} → h ≡ size → InspectedTo t n p st li h fa exposed → InspectedTo t n p st li size fa exposed
+inspected-ends {t} {n} {p} {st} {li} {h} {size} {fa} {exposed} e S = subst (λ k. InspectedTo t n p st li k fa exposed) e S
 
 -- ---- as the code tests
 
-module _ (seen k : List ℕ) where
-  abbrev shines : ℕ → Bool
-  shines i = ltb 0 (getD seen (getD k i 0) 0)
+module _ (exposed k : List ℕ) where
+  abbrev cornerExposed : ℕ → Bool
+  cornerExposed i = ltb 0 (getD exposed (getD k i 0) 0)
 
-  pub unseen : (i : ℕ) → i < 4 → getD seen (getD k i 0) 0 ≡ 0 → false ≡ allSeen seen k
-  unfolding allSeen
-  unseen i h e = sym (all-fails 4 shines i h (ap (ltb 0) e ∙ le-ltb 0 0 (omega arith)))
+  pub unexposed : (i : ℕ) → i < 4 → getD exposed (getD k i 0) 0 ≡ 0 → false ≡ allExposed exposed k
+  unfolding allExposed
+  unexposed i h e = sym (all-fails 4 cornerExposed i h (ap (ltb 0) e ∙ le-ltb 0 0 (omega arith)))
 
-  pub first-seen : getD seen (getD k 3 0) 0 ≢ 0 → getD seen (getD k 2 0) 0 ≢ 0 → getD seen (getD k 1 0) 0 ≢ 0 → ltb 0 (getD seen (getD k 0 0) 0) ≡ allSeen seen k
-  unfolding allSeen allBelow
-  first-seen a b c = rw (state-in a, state-in b, state-in c) (sym (and-true (shines 0)))
-    where
-      and-true : (x : Bool) → (x && true) ≡ x
-      and-true true = refl
-      and-true false = refl
-
-module _ (st fa seen k : List ℕ) (c : ℕ) where
-  pub stays-base : getD st c 0 ≡ 2 → true ≡ cellStays st fa seen k c
+module _ (st fa exposed k : List ℕ) (c : ℕ) where
+  pub stays-base : getD st c 0 ≡ 2 → true ≡ cellStays st fa exposed k c
   unfolding cellStays
   stays-base e = rw (eq-eqb (getD st c 0) 2 e)
 
-  pub leaves-face : getD st c 0 ≢ 2 → 16 ≤ getD fa c 0 → false ≡ cellStays st fa seen k c
+  pub leaves-face : getD st c 0 ≢ 2 → 16 ≤ getD fa c 0 → false ≡ cellStays st fa exposed k c
   unfolding cellStays
   leaves-face d h = rw (ne-eqb (getD st c 0) 2 d, le-ltb (getD fa c 0) 16 h)
 
-  pub stays-seen : getD st c 0 ≢ 2 → getD fa c 0 < 16 → {r : Bool} → r ≡ allSeen seen k → r ≡ cellStays st fa seen k c
+  pub stays-exposed : getD st c 0 ≢ 2 → getD fa c 0 < 16 → {r : Bool} → r ≡ allExposed exposed k → r ≡ cellStays st fa exposed k c
   unfolding cellStays
-  stays-seen d h e = e ∙ rw (ne-eqb (getD st c 0) 2 d, lt-ltb (getD fa c 0) 16 h)
+  stays-exposed d h e = e ∙ rw (ne-eqb (getD st c 0) 2 d, lt-ltb (getD fa c 0) 16 h)
 
-pub four-below : (m : ℕ) {k k′ : List ℕ} → k ≡ k′ → ((j : ℕ) → j < 4 → getD k′ j 0 < m) →
-    (getD k 0 0 < m) × (getD k 1 0 < m) × (getD k 2 0 < m) × (getD k 3 0 < m)
-four-below m {k} {k′} e h = (at 0 (omega arith), at 1 (omega arith), at 2 (omega arith), at 3 (omega arith))
-  where
-    at : (j : ℕ) → j < 4 → getD k j 0 < m
-    at j l = subst (λ k. getD k j 0 < m) (sym e) (h j l)
-
-pub settled-kept : (stay : Bool) (c : ℕ) (st li : List ℕ) (kept : ℕ) → stay ≡ true → Settled stay c st li kept st (set li kept c) (kept + 1)
-settled-kept stay c st li kept e = record {
+pub kept-cell : (stay : Bool) (c : ℕ) (st li : List ℕ) (kept : ℕ) → stay ≡ true → KeptOrRemoved stay c st li kept st (set li kept c) (kept + 1)
+kept-cell stay c st li kept e = record {
   count = sym (ap (λ x. cond x (kept + 1) kept) e);
   list = sym (ap (λ x. cond x (set li kept c) li) e);
   state = sym (ap (λ x. cond x st (set st c 0)) e);
 }
 
-pub settled-removed : (stay : Bool) (c : ℕ) (st li : List ℕ) (kept : ℕ) → stay ≡ false → Settled stay c st li kept (set st c 0) li kept
-settled-removed stay c st li kept e = record {
+pub removed-cell : (stay : Bool) (c : ℕ) (st li : List ℕ) (kept : ℕ) → stay ≡ false → KeptOrRemoved stay c st li kept (set st c 0) li kept
+removed-cell stay c st li kept e = record {
   count = sym (ap (λ x. cond x (kept + 1) kept) e);
   list = sym (ap (λ x. cond x (set li kept c) li) e);
   state = sym (ap (λ x. cond x st (set st c 0)) e);
 }
 
-pub stays-same : (st st₀ fa seen k : List ℕ) (c : ℕ) → getD st c 0 ≡ getD st₀ c 0 → cellStays st fa seen k c ≡ cellStays st₀ fa seen k c
+pub stays-same : (st st₀ fa exposed k : List ℕ) (c : ℕ) → getD st c 0 ≡ getD st₀ c 0 → cellStays st fa exposed k c ≡ cellStays st₀ fa exposed k c
 unfolding cellStays
-stays-same st st₀ fa seen k c e = ap (λ x. eqb x 2 || (ltb (getD fa c 0) 16 && allSeen seen k)) e
+stays-same st st₀ fa exposed k c e = ap (λ x. eqb x 2 || (ltb (getD fa c 0) 16 && allExposed exposed k)) e
 
-pub sighted-none : (t : Tables) (n : ℕ) (p : Position) (st li : List ℕ) {fa seen : List ℕ} → length fa ≡ 4096 → length seen ≡ 1024 → ((v : ℕ) → getD seen v 0 ≡ 0) →
-    Sighted t n p st li 0 fa seen
-unfolding seenIn anyBelow
-sighted-none t n p st li hf hs dark = record {
+pub inspected-none : (t : Tables) (n : ℕ) (p : Position) (st li : List ℕ) {fa exposed : List ℕ} → length fa ≡ 4096 → length exposed ≡ 1024 → ((v : ℕ) → getD exposed v 0 ≡ 0) →
+    InspectedTo t n p st li 0 fa exposed
+unfolding exposedIn anyBelow
+inspected-none t n p st li hf hs zero = record {
   codes = hf;
   marks = hs;
   coded = λ k l. absurd (omega arith);
-  lit = λ v l. ap (ltb 0) (dark v) ∙ le-ltb 0 0 (omega arith);
+  exposed-is = λ v l. ap (ltb 0) (zero v) ∙ le-ltb 0 0 (omega arith);
 }

@@ -19,7 +19,7 @@ use Rattle.mesh.proofs.Held.{Holds, side-at}
 use Rattle.cavity.specs.Cavity.{outer, inSet, visible, coplanar, facesGood, cornersGood}
 use Rattle.locate.specs.Locate.{holds}
 use Rattle.mesh.specs.Check.{sameZ}
-use Rattle.cavity.specs.Starlike.{Seen}
+use Rattle.cavity.specs.Inner.Star.{Exposed}
 use Rattle.mesh.proofs.Checked.{same-is}
 
 zero-yes : (z : ℤ) → z ≡ pos 0 → sameZ z (pos 0) ≡ true
@@ -96,15 +96,15 @@ faces-good t p s c k e h o = go (or-cases _ (coplanar t p (4 * c + k) || visible
         by (inl r) = inr r
         by (inr r) = inl r
 
-pub corners-good : (t : Tables) (n : ℕ) (p : Position) (s : List Bool) (c k : ℕ) → cornersGood t n p s c ≡ true → k < 4 → Seen t n p s (corner t c k)
+pub corners-good : (t : Tables) (n : ℕ) (p : Position) (s : List Bool) (c k : ℕ) → cornersGood t n p s c ≡ true → k < 4 → Exposed t n p s (corner t c k)
 unfolding cornersGood
 corners-good t n p s c k e h =
     go (any-found (4 * n) (λ f. visible t p s f && faceHas t f (corner t c k)) (all-at 4 (λ k. anyBelow (4 * n) (λ f. visible t p s f && faceHas t f (corner t c k))) e k h))
   where
-    go : Found (4 * n) (λ f. visible t p s f && faceHas t f (corner t c k)) → Seen t n p s (corner t c k)
+    go : Found (4 * n) (λ f. visible t p s f && faceHas t f (corner t c k)) → Exposed t n p s (corner t c k)
     go q = record {
       face = q .at;
       face< = q .below;
-      seen = and-left (visible t p s (q .at)) (faceHas t (q .at) (corner t c k)) (q .passes);
+      face-visible = and-left (visible t p s (q .at)) (faceHas t (q .at) (corner t c k)) (q .passes);
       on = on-face-of t (q .at) (corner t c k) (and-right (visible t p s (q .at)) (faceHas t (q .at) (corner t c k)) (q .passes));
     }

@@ -16,19 +16,21 @@ use Rattle.arith.proofs.Counting.{count-none}
 use Rattle.arith.proofs.Tables.{tabulate-length, tabulate-at, any-found, any-intro, Found, first-is, all-intro, all-at, below-more}
 use Rattle.geometry.specs.declared.Position.{Position}
 use Rattle.geometry.specs.Volume.{InRange}
-use Rattle.mesh.specs.Tables.{Tables, none, cellOf, opposite, across}
-use Rattle.mesh.specs.Inner.{tables, fourAt}
+use Rattle.mesh.specs.Tables.{Tables, none, cellOf, opposite, across, tables}
+use Rattle.mesh.specs.Inner.{fourAt, SomeMesh}
 use Rattle.mesh.proofs.Numbers.{four-entry}
 use Rattle.mesh.proofs.FaceNumbers.{face-cell, face-eq, opposite<}
 use Rattle.locate.specs.Locate.{holds}
 use Rattle.cavity.specs.declared.Gathered.{Gathered}
-use Rattle.cavity.specs.Answers.{Answers, isYes, reportT, leastT}
+use Rattle.cavity.specs.Answers.{Answers, saysYes, reportT, leastT}
 use Rattle.cavity.specs.Cavity.{inSet, base, cavity, cavityOf}
-use Rattle.cavity.specs.Inner.{MeshOf, inside, setOf, withCell, Lowest, Growing, Scanned, Reached, Grew, Neighbour, Joined, Empty}
+use Rattle.cavity.specs.Inner.{inside, setOf}
+use Rattle.cavity.specs.Inner.Growth.{withCell, Lowest, Growing, Scanned, Reached, Grew, Neighbour, InsideIfYes, Empty}
 use Rattle.cavity.proofs.Correction.{base-long, base-at, base-below, cavity-has}
 use Rattle.cavity.proofs.Growth.{cavity-closed, cavity-is}
-use Rattle.cavity.proofs.Meshes.{cells-few, room, across-at, whole-report}
-use Rattle.cavity.proofs.Gathering.{joined, joined-each, joined-cell, joined-in, joined-other, grew-join, joined-stays}
+use Rattle.mesh.proofs.Reading.{cells-few, room, across-at}
+use Rattle.cavity.proofs.Answering.{whole-report}
+use Rattle.cavity.proofs.Gathering.{growing-more, joined-each, joined-cell, joined-in, joined-other, grew-join, inside-stays}
 
 -- ---- sets and states
 
@@ -45,7 +47,7 @@ in-set n st c e =
     let h : c < n = omega (arith, flag-below (setOf n st) c e, set-long n st) in
     (h, sym (set-at n st c h) ∙ e)
 
-module _ {ps cs ns : List ℕ} {np n : ℕ} (M : MeshOf (tables ps cs ns) np n) (a : Answers) {p : Position} (r : InRange p) where
+module _ {ps cs ns : List ℕ} {np n : ℕ} (M : SomeMesh (tables ps cs ns) np n) (a : Answers) {p : Position} (r : InRange p) where
   abbrev t : Tables
   t = tables ps cs ns
 
@@ -53,7 +55,7 @@ module _ {ps cs ns : List ℕ} {np n : ℕ} (M : MeshOf (tables ps cs ns) np n) 
   T = reportT a t p
 
   abbrev yes? : ℕ → Bool
-  yes? = isYes a t p
+  yes? = saysYes a t p
 
   -- ---- the base scan
 
@@ -85,7 +87,7 @@ module _ {ps cs ns : List ℕ} {np n : ℕ} (M : MeshOf (tables ps cs ns) np n) 
     scan-join h e ex eg es el =
         rw (eg, es, el, ex)
         record {
-          growing = joined (S .growing) (cells-few M) c h (not-yet h) 2 (sym (ap (λ x. cond x 2 1) (base-at t n p c h ∙ e))) (λ k l. whole-report M a k l r);
+          growing = growing-more (S .growing) (cells-few M) c h (not-yet h) 2 (sym (ap (λ x. cond x 2 1) (base-at t n p c h ∙ e))) (λ k l. whole-report M a k l r);
           exactly = λ k l. go k l (ℕ-discrete k c);
         }
       where
@@ -155,11 +157,11 @@ module _ {ps cs ns : List ℕ} {np n : ℕ} (M : MeshOf (tables ps cs ns) np n) 
   module _ {st li : List ℕ} {g : Gathered} (G : Reached a t p n st li g) where
     pub visit-join : (c : ℕ) → c < n → inside st c ≡ false → inSet (cavityOf t n p yes?) c ≡ true → {x : Float} {st′ li′ : List ℕ} {g′ : Gathered} →
         x ≡ T c → g′ ≡ withCell g c x → st′ ≡ set st c 1 → li′ ≡ set li (g .size) c →
-        Reached a t p n st′ li′ g′ × Grew n st li (g .size) st′ li′ (g′ .size) × Joined a t p st′ c
+        Reached a t p n st′ li′ g′ × Grew n st li (g .size) st′ li′ (g′ .size) × InsideIfYes a t p st′ c
     visit-join c h out e ex eg es el =
         rw (eg, es, el, ex) (
           record {
-            growing = joined (G .growing) (cells-few M) c h out 1 kind (λ k l. whole-report M a k l r);
+            growing = growing-more (G .growing) (cells-few M) c h out 1 kind (λ k l. whole-report M a k l r);
             based = λ k l b. grew-join (G .growing) (cells-few M) c h out 1 kind .keeps k l (G .based k l b);
             sound = joined-each (G .growing) (cells-few M) c h out 1 kind (λ k. inSet (cavityOf t n p yes?) k ≡ true) (G .sound) e;
           },
@@ -192,17 +194,17 @@ module _ {ps cs ns : List ℕ} {np n : ℕ} (M : MeshOf (tables ps cs ns) np n) 
           (neighbour-of (getD li h 0) j (G .growing .list .below h h<) (G .growing .list .listed h h<) l)
 
       pub closed-more : {st′ li′ : List ℕ} {size′ : ℕ} → Grew n st li (g .size) st′ li′ size′ →
-          ((k : ℕ) → k < h → (j : ℕ) → j < 4 → Joined a t p st (across t (4 * getD li k 0 + j))) →
-          ((j : ℕ) → j < 4 → Joined a t p st′ (getD u j 0)) →
-          (k : ℕ) → k < h + 1 → (j : ℕ) → j < 4 → Joined a t p st′ (across t (4 * getD li′ k 0 + j))
+          ((k : ℕ) → k < h → (j : ℕ) → j < 4 → InsideIfYes a t p st (across t (4 * getD li k 0 + j))) →
+          ((j : ℕ) → j < 4 → InsideIfYes a t p st′ (getD u j 0)) →
+          (k : ℕ) → k < h + 1 → (j : ℕ) → j < 4 → InsideIfYes a t p st′ (across t (4 * getD li′ k 0 + j))
       closed-more {st′} {li′} {size′} A old new =
-          below-more (λ k. (j : ℕ) → j < 4 → Joined a t p st′ (across t (4 * getD li′ k 0 + j))) h
-          (λ k l j i. subst (λ c. Joined a t p st′ (across t (4 * c + j))) (sym (A .same k (omega arith)))
-          (joined-stays a t p (across t (4 * getD li k 0 + j)) (neighbour-of (getD li k 0) j (G .growing .list .below k (omega arith)) (G .growing .list .listed k (omega arith)) i) A (old k l j i)))
-          (λ j i. subst (λ c. Joined a t p st′ (across t (4 * c + j))) (sym (A .same h h<)) (subst (Joined a t p st′) (entry-is j i) (new j i)))
+          below-more (λ k. (j : ℕ) → j < 4 → InsideIfYes a t p st′ (across t (4 * getD li′ k 0 + j))) h
+          (λ k l j i. subst (λ c. InsideIfYes a t p st′ (across t (4 * c + j))) (sym (A .same k (omega arith)))
+          (inside-stays a t p (across t (4 * getD li k 0 + j)) (neighbour-of (getD li k 0) j (G .growing .list .below k (omega arith)) (G .growing .list .listed k (omega arith)) i) A (old k l j i)))
+          (λ j i. subst (λ c. InsideIfYes a t p st′ (across t (4 * c + j))) (sym (A .same h h<)) (subst (InsideIfYes a t p st′) (entry-is j i) (new j i)))
 
     -- every listed cell's neighbours have been visited: this is the cavity
-    pub grown-cavity : ((k j : ℕ) → k < g .size → j < 4 → Joined a t p st (across t (4 * getD li k 0 + j))) → setOf n st ≡ cavityOf t n p yes?
+    pub grown-cavity : ((k j : ℕ) → k < g .size → j < 4 → InsideIfYes a t p st (across t (4 * getD li k 0 + j))) → setOf n st ≡ cavityOf t n p yes?
     unfolding cavityOf
     grown-cavity closed =
         cavity-is (M .mesh) (room M) yes? (base t n p) (base-long t n p) (setOf n st) (set-long n st)
@@ -215,7 +217,7 @@ module _ {ps cs ns : List ℕ} {np n : ℕ} (M : MeshOf (tables ps cs ns) np n) 
             let i = in-set n st (cellOf f) e in
             let k = G .growing .list .all (cellOf f) (i .0) (i .1) in
             let q : 4 * getD li (k .0) 0 + opposite f ≡ f = ap (λ c. 4 * c + opposite f) (k .2) ∙ face-eq f in
-            let w : inside st (across t f) ≡ true = subst (λ g. Joined a t p st (across t g)) q (closed (k .0) (opposite f) (k .1) (opposite< f)) real y in
+            let w : inside st (across t f) ≡ true = subst (λ g. InsideIfYes a t p st (across t g)) q (closed (k .0) (opposite f) (k .1) (opposite< f)) real y in
             set-at n st (across t f) (M .mesh .across< f f< real) ∙ w
 
   -- ---- the least T

@@ -20,7 +20,8 @@ inSet s c = getD s c false
 unfoldable pub base : Tables → ℕ → Position → List Bool
 base t n p = tabulate n (holds t p)
 
--- 'each neighbour of a spot cell whose answer is yes': one round of growing
+-- 'each neighbour of a spot cell whose answer is yes': one round of growing. Said from the neighbour's end: in a mesh c names a cell of the
+-- set across a face just where that cell names c (`either-way` in proofs/Growth).
 unfoldable pub grown : Tables → ℕ → (ℕ → Bool) → List Bool → List Bool
 grown t n yes? s = tabulate n (λ c. inSet s c || (yes? c && anyBelow 4 (λ k. inSet s (across t (4 * c + k)))))
 

@@ -1,17 +1,15 @@
-// The cavity of a new point: the cells that hold it, the growth by answers, and the visibility correction.
-
-pub mod answering;
-pub mod correcting;
-pub mod finding;
-pub mod growing;
+// The cavity of a new point: the cells that hold it, the growth by answers, and the visibility correction. Definitions and laws: the
+// code is in the crates cavity_*.
 
 use geometry::Position;
 
-// A node to insert: where it lies, how many points and cells the mesh has, and whether answers are handed in.
+// A node to insert: where it lies, how many points and cells the mesh has, how long the work area is, and whether answers are
+// handed in.
 pub struct Node {
     pub position: Position,
     pub points: usize,
     pub cells: usize,
+    pub work: usize,
     pub handed: bool,
 }
 

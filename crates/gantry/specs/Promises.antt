@@ -3,7 +3,10 @@
 use Prim.Native.Nat.{ℕ}
 use mathlib.Core.List.{List}
 use mathlib.Core.Path.{_≡_}
+use lib.IntN.{ℤ, pos}
+use lib.Signed.{_<ℤ_}
 use lib.ListN.{length}
+use Rattle.rounding.specs.Whole.{Near}
 use Rattle.geometry.specs.declared.Position.{Position}
 use Rattle.mesh.specs.Tables.{Tables, cleared}
 use Rattle.mesh.specs.Start.{startAnswer, startTables}
@@ -13,14 +16,15 @@ use Rattle.insertion.specs.Insertion.{insertCall}
 use Rattle.insertion.specs.List.{listCall}
 use Rattle.nodefile.specs.Read.{readAnswer, readOutput}
 use Rattle.nodefile.specs.Write.{writeAnswer, writeOutput}
-use Rattle.gantry.specs.declared.GantryMesh.{GantryMesh}
-use Rattle.gantry.specs.declared.GantryStarted.{GantryStarted}
-use Rattle.gantry.specs.declared.GantryInserted.{GantryInserted}
-use Rattle.gantry.specs.declared.GantryListed.{GantryListed}
-use Rattle.gantry.specs.declared.GantryLocated.{GantryLocated}
-use Rattle.gantry.specs.declared.GantryRead.{GantryRead}
-use Rattle.gantry.specs.declared.GantryWritten.{GantryWritten}
-use Rattle.gantry.specs.Numbers.{recordOf, startedOf, insertedOf, listedOf, locatedOf, readOf, writtenOf}
+use Rattle.gantry_numbers.specs.declared.GantryMesh.{GantryMesh}
+use Rattle.gantry_numbers.specs.declared.GantryStarted.{GantryStarted}
+use Rattle.gantry_numbers.specs.declared.GantryInserted.{GantryInserted}
+use Rattle.gantry_numbers.specs.declared.GantryListed.{GantryListed}
+use Rattle.gantry_numbers.specs.declared.GantryLocated.{GantryLocated}
+use Rattle.gantry_numbers.specs.declared.GantrySphere.{GantrySphere}
+use Rattle.gantry_numbers.specs.declared.GantryRead.{GantryRead}
+use Rattle.gantry_numbers.specs.declared.GantryWritten.{GantryWritten}
+use Rattle.gantry_numbers.specs.Numbers.{meshFromC, startedOf, insertedOf, listedOf, locatedOf, readOf, writtenOf}
 
 -- tables t and a work area ws are lent, and left as t′ and ws′; a refusal, too, is one of the definitions' cases
 pub record Starts (X Y Z : ℕ) (t : Tables) (ws : List ℕ) (r : GantryStarted) (t′ : Tables) (ws′ : List ℕ) : Type 0 where
@@ -30,17 +34,17 @@ pub record Starts (X Y Z : ℕ) (t : Tables) (ws : List ℕ) (r : GantryStarted)
 
 pub record Inserts (m : GantryMesh) (t : Tables) (ws : List ℕ) (p : Position) (a : Answers)
     (r : GantryInserted) (t′ : Tables) (ws′ : List ℕ) : Type 0 where
-  pub answer : r ≡ insertedOf m (insertCall (recordOf m) t (length ws) p a .answer)
-  pub tables : t′ ≡ insertCall (recordOf m) t (length ws) p a .tables
+  pub answer : r ≡ insertedOf m (insertCall (meshFromC m) t (length ws) p a .answer)
+  pub tables : t′ ≡ insertCall (meshFromC m) t (length ws) p a .tables
   pub work : ws′ ≡ cleared ws
 
 pub record Lists (m : GantryMesh) (t : Tables) (ws ns : List ℕ) (r : GantryListed) (t′ : Tables) (ws′ : List ℕ) : Type 0 where
-  pub answer : r ≡ listedOf m (listCall (recordOf m) t (length ws) ns .answer)
-  pub tables : t′ ≡ listCall (recordOf m) t (length ws) ns .tables
+  pub answer : r ≡ listedOf m (listCall (meshFromC m) t (length ws) ns .answer)
+  pub tables : t′ ≡ listCall (meshFromC m) t (length ws) ns .tables
   pub work : ws′ ≡ cleared ws
 
 pub record Locates (m : GantryMesh) (t : Tables) (ws : List ℕ) (p : Position) (r : GantryLocated) (ws′ : List ℕ) : Type 0 where
-  pub answer : r ≡ locatedOf (locateCall (recordOf m) t (length ws) p)
+  pub answer : r ≡ locatedOf (locateCall (meshFromC m) t (length ws) p)
   pub work : ws′ ≡ cleared ws
 
 pub record Reads (file out : List ℕ) (r : GantryRead) (out′ : List ℕ) : Type 0 where
@@ -48,6 +52,12 @@ pub record Reads (file out : List ℕ) (r : GantryRead) (out′ : List ℕ) : Ty
   pub output : out′ ≡ readOutput file out
 
 pub record Writes (m : GantryMesh) (t : Tables) (ws out : List ℕ) (r : GantryWritten) (ws′ out′ : List ℕ) : Type 0 where
-  pub answer : r ≡ writtenOf (writeAnswer (recordOf m) t (length ws) (length out))
-  pub output : out′ ≡ writeOutput (recordOf m) t (length ws) out
+  pub answer : r ≡ writtenOf (writeAnswer (meshFromC m) t (length ws) (length out))
+  pub output : out′ ≡ writeOutput (meshFromC m) t (length ws) out
   pub work : ws′ ≡ cleared ws
+
+-- what the sphere test's answer tells of the exact sum e: T lies within 2^39 of it, and beyond ±2^39 has its sign
+pub record Agrees (e : ℤ) (r : GantrySphere) : Type 0 where
+  pub near : r .refusal ≡ 0 → Near (r .t) e
+  pub inside : r .answer ≡ 1 → pos 0 <ℤ e
+  pub outside : r .answer ≡ 2 → e <ℤ pos 0

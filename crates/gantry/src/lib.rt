@@ -1,70 +1,247 @@
-// The C interface. `include/gantry.h` declares these structs and the calls for C; names, field order and layouts are fixed.
+// The C interface: `include/gantry.h` declares these calls. Each hands its numbers to the call of a lower crate and turns that one's answer
+// into the interface's numbers.
 
-mod answers;
-pub mod calls;
-mod records;
+ghost use mathlib.Core.Bool.{true};
+ghost use mathlib.Core.Path.{_≡_};
+ghost use Prim.Native.Nat.{_≤_, _^_};
+ghost use lib.IntN.{natAbs};
+ghost use lib.ListN.{length};
+ghost use Rattle.geometry.specs.Volume.{position, areAllCoordinates, volumeOfNumbers};
+ghost use Rattle.insphere.specs.Sphere.{sphereSum, sphereCall};
+ghost use Rattle.mesh.specs.Tables.{tablesBefore, tablesAfter, cleared};
+ghost use Rattle.mesh.specs.Check.{isMesh};
+ghost use Rattle.cavity.specs.Answers.{sphere, handed};
+ghost use Rattle.gantry_numbers.specs.Numbers.{meshFromC, testedOf};
+ghost use Rattle.gantry.specs.Promises.{Starts, Inserts, Lists, Locates, Reads, Writes, Agrees};
+use gantry_numbers::GantryInserted;
+use gantry_numbers::GantryListed;
+use gantry_numbers::GantryLocated;
+use gantry_numbers::GantryMesh;
+use gantry_numbers::GantryRead;
+use gantry_numbers::GantrySphere;
+use gantry_numbers::GantryStarted;
+use gantry_numbers::GantryWritten;
+use gantry_numbers::inserted;
+use gantry_numbers::listed;
+use gantry_numbers::located;
+use gantry_numbers::read;
+use gantry_numbers::started;
+use gantry_numbers::tested;
+use gantry_numbers::to_record;
+use gantry_numbers::written;
+use geometry::Position;
+use geometry::volume::volume6;
+use insertion_list::insert_list;
+use insertion_single::insert;
+use insertion_single::insert_answers;
+use insphere::sphere_test;
+use locate_call::locate;
+use mesh_check::check;
+use mesh_start::start;
+use nodefile_read::read_nodes;
+use nodefile_write::write_nodes;
 
-#[repr(C)]
-pub struct GantryMesh {
-    pub x: u32,
-    pub y: u32,
-    pub z: u32,
-    pub points: u32,
-    pub cells: u32,
+#[no_mangle]
+pub extern "C" fn gantry_volume6(
+    ax: i32,
+    ay: i32,
+    az: i32,
+    bx: i32,
+    by: i32,
+    bz: i32,
+    cx: i32,
+    cy: i32,
+    cz: i32,
+    dx: i32,
+    dy: i32,
+    dz: i32,
+) -> i64
+    ensures { λ r. ⌜ r ≡ volumeOfNumbers ax ay az bx by bz cx cy cz dx dy dz ⌝ }
+    ensures within { λ r. ⌜ (areAllCoordinates ax ay az bx by bz cx cy cz dx dy dz ≡ true → natAbs r ≤ 2 ^ 52) ⌝ }
+{
+    volume6(ax, ay, az, bx, by, bz, cx, cy, cz, dx, dy, dz)
 }
 
-// In each answer, refusal is 0 where the call was accepted, and a field that a refusal leaves without meaning is 0.
-
-#[repr(C)]
-pub struct GantryStarted {
-    pub refusal: u8,
-    pub mesh: GantryMesh,
+#[no_mangle]
+pub extern "C" fn gantry_sphere_test(
+    ax: u32,
+    ay: u32,
+    az: u32,
+    bx: u32,
+    by: u32,
+    bz: u32,
+    cx: u32,
+    cy: u32,
+    cz: u32,
+    dx: u32,
+    dy: u32,
+    dz: u32,
+    px: u32,
+    py: u32,
+    pz: u32,
+) -> GantrySphere
+    ensures { λ r. ⌜ r ≡ testedOf (sphereCall (position ax ay az) (position bx by bz) (position cx cy cz) (position dx dy dz) (position px py pz)) ⌝ }
+    ensures agrees { λ r. ⌜ Agrees (sphereSum (position ax ay az) (position bx by bz) (position cx cy cz) (position dx dy dz) (position px py pz)) r ⌝ }
+{
+    let answer = sphere_test(
+        Position {
+            x: ax,
+            y: ay,
+            z: az,
+        },
+        Position {
+            x: bx,
+            y: by,
+            z: bz,
+        },
+        Position {
+            x: cx,
+            y: cy,
+            z: cz,
+        },
+        Position {
+            x: dx,
+            y: dy,
+            z: dz,
+        },
+        Position {
+            x: px,
+            y: py,
+            z: pz,
+        },
+    );
+    tested(answer)
 }
 
-#[repr(C)]
-pub struct GantryInserted {
-    pub refusal: u8,
-    pub mesh: GantryMesh,
-    pub point: u32,
-    pub before: u32,
-    pub after: u32,
-    pub made: u32,
-    pub least: f64,
+#[no_mangle]
+pub extern "C" fn gantry_start(
+    x: u32,
+    y: u32,
+    z: u32,
+    points: &mut [u32],
+    corners: &mut [u16],
+    neighbours: &mut [u16],
+    work: &mut [u16],
+) -> GantryStarted
+    ensures { λ r. ⌜ Starts x y z (tablesBefore points corners neighbours) (now (work .entry))
+        r (tablesAfter points corners neighbours) (now (work .exit)) ⌝ }
+{
+    started(start(x, y, z, points, corners, neighbours, work))
 }
 
-// The place of the refused node, or how many went in.
-#[repr(C)]
-pub struct GantryListed {
-    pub refusal: u8,
-    pub mesh: GantryMesh,
-    pub place: u32,
+#[no_mangle]
+pub extern "C" fn gantry_insert(
+    mesh: GantryMesh,
+    points: &mut [u32],
+    corners: &mut [u16],
+    neighbours: &mut [u16],
+    work: &mut [u16],
+    x: u32,
+    y: u32,
+    z: u32,
+) -> GantryInserted
+    ensures { λ r. ⌜ Inserts mesh (tablesBefore points corners neighbours) (now (work .entry)) (position x y z) sphere
+        r (tablesAfter points corners neighbours) (now (work .exit)) ⌝ }
+{
+    let q = Position { x: x, y: y, z: z };
+    let answer = insert(to_record(mesh), points, corners, neighbours, work, q);
+    inserted(mesh, answer)
 }
 
-#[repr(C)]
-pub struct GantryLocated {
-    pub refusal: u8,
-    pub cell: u32,
+#[no_mangle]
+pub extern "C" fn gantry_insert_answers(
+    mesh: GantryMesh,
+    points: &mut [u32],
+    corners: &mut [u16],
+    neighbours: &mut [u16],
+    work: &mut [u16],
+    answers: &[u8],
+    x: u32,
+    y: u32,
+    z: u32,
+) -> GantryInserted
+    ensures { λ r. ⌜ Inserts mesh (tablesBefore points corners neighbours) (now (work .entry)) (position x y z) (handed (now (answers .entry)))
+        r (tablesAfter points corners neighbours) (now (work .exit)) ⌝ }
+{
+    let q = Position { x: x, y: y, z: z };
+    let answer = insert_answers(
+        to_record(mesh),
+        points,
+        corners,
+        neighbours,
+        work,
+        answers,
+        q,
+    );
+    inserted(mesh, answer)
 }
 
-// Answers 1 inside, 2 outside, 3 close.
-#[repr(C)]
-pub struct GantrySphere {
-    pub refusal: u8,
-    pub answer: u8,
-    pub t: f64,
+#[no_mangle]
+pub extern "C" fn gantry_insert_list(
+    mesh: GantryMesh,
+    points: &mut [u32],
+    corners: &mut [u16],
+    neighbours: &mut [u16],
+    work: &mut [u16],
+    nodes: &[u32],
+) -> GantryListed
+    ensures { λ r. ⌜ Lists mesh (tablesBefore points corners neighbours) (now (work .entry)) (now (nodes .entry))
+        r (tablesAfter points corners neighbours) (now (work .exit)) ⌝ }
+{
+    let answer = insert_list(to_record(mesh), points, corners, neighbours, work, nodes);
+    listed(mesh, answer)
 }
 
-#[repr(C)]
-pub struct GantryRead {
-    pub refusal: u8,
-    pub x: u32,
-    pub y: u32,
-    pub z: u32,
-    pub count: u32,
+#[no_mangle]
+pub extern "C" fn gantry_locate(
+    mesh: GantryMesh,
+    points: &[u32],
+    corners: &[u16],
+    neighbours: &[u16],
+    work: &mut [u16],
+    x: u32,
+    y: u32,
+    z: u32,
+) -> GantryLocated
+    ensures { λ r. ⌜ Locates mesh (tablesBefore points corners neighbours) (now (work .entry)) (position x y z)
+        r (now (work .exit)) ⌝ }
+{
+    let q = Position { x: x, y: y, z: z };
+    located(locate(to_record(mesh), points, corners, neighbours, work, q))
 }
 
-#[repr(C)]
-pub struct GantryWritten {
-    pub refusal: u8,
-    pub bytes: u32,
+#[no_mangle]
+pub extern "C" fn gantry_check(
+    mesh: GantryMesh,
+    points: &[u32],
+    corners: &[u16],
+    neighbours: &[u16],
+    work: &mut [u16],
+) -> bool
+    ensures { λ r. ⌜ (r ≡ isMesh (meshFromC mesh) (tablesBefore points corners neighbours) (length (now (work .entry))))
+        × (now (work .exit) ≡ cleared (now (work .entry))) ⌝ }
+{
+    check(to_record(mesh), points, corners, neighbours, work)
+}
+
+#[no_mangle]
+pub extern "C" fn gantry_read_nodes(file: &[u8], nodes: &mut [u32]) -> GantryRead
+    ensures { λ r. ⌜ Reads (now (file .entry)) (now (nodes .entry)) r (now (nodes .exit)) ⌝ }
+{
+    read(read_nodes(file, nodes))
+}
+
+#[no_mangle]
+pub extern "C" fn gantry_write_nodes(
+    mesh: GantryMesh,
+    points: &[u32],
+    corners: &[u16],
+    neighbours: &[u16],
+    work: &mut [u16],
+    out: &mut [u8],
+) -> GantryWritten
+    ensures { λ r. ⌜ Writes mesh (tablesBefore points corners neighbours) (now (work .entry)) (now (out .entry))
+        r (now (work .exit)) (now (out .exit)) ⌝ }
+{
+    written(write_nodes(to_record(mesh), points, corners, neighbours, work, out))
 }

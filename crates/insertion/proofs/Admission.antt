@@ -1,25 +1,25 @@
--- A node that has passed tests 1 to 6: what its cavity and star are, and what the node answers and leaves.
-use Prim.Native.Nat.{ℕ, _+_, _-_, _*_, _^_, _≤_, _<_}
+-- A node of a mesh: which test refuses it, what its cavity and star are, and what it answers and leaves.
+use Prim.Native.Nat.{ℕ, _+_, _*_, _^_, _≤_, _<_}
 use mathlib.Core.Bool.{Bool, true, false, not}
-use mathlib.Core.List.{List, []}
-use mathlib.Core.Logic.{_≢_}
+use mathlib.Core.List.{List}
+use mathlib.Core.Logic.{_≢_, _⊎_, inl, inr}
 use mathlib.Core.Path.{_≡_, refl, sym, ap, ap₂, _∙_, subst}
 use native.Mathlib.Omega.{arith}
 use native.Mathlib.Decide.{decLt}
-use lib.Dec.{eqb}
-use lib.ListN.{getD}
-use borrow.Author.Tests.{ne-eqb, eq-eqb, eqb-true, eqb-false, lt-ltb, le-ltb}
+use lib.Dec.{ltb, eqb}
+use lib.ListN.{length, getD}
+use borrow.Author.Tests.{ne-eqb, eq-eqb, eqb-true, eqb-false, lt-ltb, le-ltb, ltb-false}
 use Rattle.arith.specs.Table.{anyBelow}
-use Rattle.arith.proofs.Flags.{clash, fails, bool-ext}
+use Rattle.arith.proofs.Flags.{split, clash, fails, bool-ext}
 use Rattle.arith.proofs.Tables.{any-found, any-intro}
-use Rattle.arith.proofs.Counting.{count-not, count-le}
+use Rattle.arith.proofs.Counting.{count-le}
 use Rattle.geometry.specs.declared.Position.{Position}
-use Rattle.geometry.specs.Volume.{InRange, samePosition}
+use Rattle.geometry.specs.Volume.{InRange, inBox, samePosition}
 use Rattle.geometry.proofs.Ranges.{box-in}
 use Rattle.mesh.specs.declared.Mesh.{Mesh}
 use Rattle.mesh.specs.Tables.{Tables, pointCapacity, cellCapacity, point}
 use Rattle.mesh.specs.Mesh.{IsMesh}
-use Rattle.mesh.specs.Inner.{tables, HasPoint}
+use Rattle.mesh.specs.Inner.{SomeMesh}
 use Rattle.mesh.proofs.Room.{room-of}
 use Rattle.mesh.proofs.Checked.{check-mesh, same-position-of, same-position-yes}
 use Rattle.locate.specs.Locate.{holds}
@@ -27,67 +27,124 @@ use Rattle.locate.specs.Inner.{axisCode, sideCode, sideCodes}
 use Rattle.locate.proofs.Codes.{code-at}
 use Rattle.cavity.specs.declared.Node.{Node}
 use Rattle.cavity.specs.declared.Extent.{Extent}
-use Rattle.cavity.specs.Answers.{Answers, isYes, answersOf}
-use Rattle.cavity.specs.Cavity.{inSet, visible, correctedCavity, cavityOf, cavitySize}
-use Rattle.cavity.specs.Starlike.{Starlike}
-use Rattle.cavity.specs.Inner.{MeshOf, Ready, inside, setOf, Hollow}
-use Rattle.cavity.proofs.Correction.{base-at, corrected-starlike}
-use Rattle.star.specs.Star.{keptCount, madeCount, newCount, newPoints, newCorners, newNeighbours, star}
-use Rattle.star.specs.Inner.{Lookup, Numbered, Replacing}
-use Rattle.insertion.specs.declared.Inserted.{Inserted}
-use Rattle.insertion.specs.declared.Inserted.the-variants.{Accepted, Refused}
-use Rattle.insertion.specs.Insertion.{firstCavity, lastCavity, cellsMade, nodeRefusal, reportOf, insertedMesh, insertedTables}
-use Rattle.insertion.specs.Inner.{someZero, Admitted, acceptedWith, NodeLeaves}
-use Rattle.insertion.proofs.Refusals.{MeshFor, is-unheld, is-cells-full, is-accepted, node-accepted, node-refused}
+use Rattle.cavity.specs.Answers.{Answers, saysYes, answersOf}
+use Rattle.cavity.specs.Cavity.{inSet, visible, cavityOf, cavitySize}
+use Rattle.cavity.specs.Inner.Star.{StarShaped}
+use Rattle.cavity.specs.Inner.{Answerable, inside, setOf, CavityFound}
+use Rattle.cavity.proofs.Correction.{base-at, corrected-star-shaped}
+use Rattle.star.specs.Star.{madeCount}
+use Rattle.star.specs.Inner.{Lookup, Numbered}
+use Rattle.insertion.specs.declared.Found.{Found}
+use Rattle.insertion.specs.Insertion.{lastCavity, cellsMade, nodeRefusal}
+use Rattle.insertion.specs.Inner.{someZero, starFound, PointTests, NodeOf, Admitted, Tested}
+use Rattle.insertion.proofs.Refusals.{MeshFor, is-outside, is-taken, is-points-full, is-unheld, is-cells-full, is-accepted}
 
-pub refused-node : (m : Mesh) (t : Tables) (w : ℕ) (p : Position) (a : Answers) {k : ℕ} → nodeRefusal m t w p a ≡ k → k ≢ 0 → NodeLeaves m t w p a (Refused k) t
-refused-node m t w p a e d =
-    let q = node-refused m t w p a e d in
-    record { answer = sym (ap (λ l. l .answer) q); tables = sym (ap (λ l. l .tables) q) }
+-- ---- tests 4 to 6
 
-module _ {m : Mesh} {t : Tables} {w : ℕ} {bytes : List ℕ} {d : Node} (A : Admitted m t w bytes d) where
+module _ (m : Mesh) (t : Tables) (p : Position) where
+  pub outside-box : inBox (m .x) (m .y) (m .z) p ≡ false → PointTests m t p 4
+  outside-box e = record { refuses = λ d w a. is-outside m t w p a e; passes = λ z. absurd (omega arith) }
+
+  pub point-taken : inBox (m .x) (m .y) (m .z) p ≡ true → anyBelow (m .points) (λ k. samePosition (point t k) p) ≡ true → PointTests m t p 5
+  point-taken b e = record { refuses = λ d w a. is-taken m t w p a b e; passes = λ z. absurd (omega arith) }
+
+  pub points-full : inBox (m .x) (m .y) (m .z) p ≡ true → anyBelow (m .points) (λ k. samePosition (point t k) p) ≡ false →
+      eqb (m .points) (pointCapacity t) ≡ true → PointTests m t p 6
+  points-full b f e = record { refuses = λ d w a. is-points-full m t w p a b f e; passes = λ z. absurd (omega arith) }
+
+  pub free-place : inBox (m .x) (m .y) (m .z) p ≡ true → anyBelow (m .points) (λ k. samePosition (point t k) p) ≡ false →
+      eqb (m .points) (pointCapacity t) ≡ false → PointTests m t p 0
+  free-place b f e = record { refuses = λ d. absurd (d refl); passes = λ z. record { box = b; free = f; next = e } }
+
+-- ---- test 8
+
+module _ (t : Tables) (d : Node) (s : List Bool) {k : ℕ} (e : k ≡ madeCount t (d .cells) (d .position) s) where
+  pub made-fits : d .cells ≤ 4096 → d .cells + k < 2 ^ 64
+  unfolding madeCount
+  made-fits h = omega (arith, e, count-le (4 * d .cells) (visible t (d .position) s))
+
+  module _ (r : Extent) {c : ℕ} (f : c ≡ cellCapacity t (d .work)) where
+    pub no-room : c < d .cells + k → record { refusal = 8; extent = r; made = k } ≡ starFound t d s r
+    unfolding starFound
+    no-room l = rw (lt-ltb (cellCapacity t (d .work)) (d .cells + madeCount t (d .cells) (d .position) s) (omega (arith, l, e, f))) (λ i. record { refusal = 8; extent = r; made = e i })
+
+    pub has-room : d .cells + k ≤ c → record { refusal = 0; extent = r; made = k } ≡ starFound t d s r
+    unfolding starFound
+    has-room l = rw (le-ltb (cellCapacity t (d .work)) (d .cells + madeCount t (d .cells) (d .position) s) (omega (arith, l, e, f))) (λ i. record { refusal = 0; extent = r; made = e i })
+
+-- ---- a node
+
+module _ {m : Mesh} {t : Tables} {bytes : List ℕ} {d : Node} (N : NodeOf m t bytes d) where
+  pub M : MeshFor m t (d .work)
+  M = check-mesh (m .x) (m .y) (m .z) (pointCapacity t) (cellCapacity t (d .work)) (m .points) (m .cells) t (N .mesh)
+
+  unfoldable pub node-mesh : SomeMesh t (d .points) (d .cells)
+  node-mesh = record {
+    X = m .x;
+    Y = m .y;
+    Z = m .z;
+    w = d .work;
+    mesh =
+        subst (λ k. IsMesh (m .x) (m .y) (m .z) (pointCapacity t) (cellCapacity t (d .work)) k (d .cells) t) (sym (N .points-are))
+        (subst (λ k. IsMesh (m .x) (m .y) (m .z) (pointCapacity t) (cellCapacity t (d .work)) (m .points) k t) (sym (N .cells-are)) M);
+  }
+
+  pub cells≤ : m .cells ≤ 4096
+  cells≤ = omega (arith, M .cells≤, room-of t (d .work) .cells≤)
+
+  pub points≤ : m .points ≤ 1024
+  points≤ = omega (arith, M .points≤, room-of t (d .work) .points≤)
+
+  pub node-cells≤ : d .cells ≤ 4096
+  node-cells≤ = omega (arith, cells≤, N .cells-are)
+
+  -- what the side codes ask, and what they are for the record's own count
+  pub placed-points : (d .points ≤ 1024) × (3 * d .points ≤ length (t .points))
+  placed-points = (omega (arith, points≤, N .points-are), omega (arith, N .points-are, M .points≤, room-of t (d .work) .points-fit))
+
+  pub points-same : {codes : List ℕ} → codes ≡ sideCodes (t .points) (d .points) (d .position) → (m .points ≤ 1024) × (codes ≡ sideCodes (t .points) (m .points) (d .position))
+  points-same e = (points≤, e ∙ ap (λ k. sideCodes (t .points) k (d .position)) (N .points-are))
+
+  pub admitted : {r : ℕ} → PointTests m t (d .position) r → r ≡ 0 → Admitted m t bytes d
+  admitted T z = record { node = N; place = T .passes z }
+
+  pub refused-early : {r : ℕ} → PointTests m t (d .position) r → r ≢ 0 → {e : Extent} {k : ℕ} {st li fa nu : List ℕ} →
+      Tested m t bytes d st li fa nu record { refusal = r; extent = e; made = k }
+  refused-early T z = record { refusal-is = sym (T .refuses z (d .work) (answersOf (d .handed) bytes)); starable = λ e. absurd (z e) }
+
+module _ {m : Mesh} {t : Tables} {bytes : List ℕ} {d : Node} (A : Admitted m t bytes d) where
   abbrev p : Position
   p = d .position
 
   abbrev a : Answers
   a = answersOf (d .handed) bytes
 
-  M : MeshFor m t w
-  M = check-mesh (m .x) (m .y) (m .z) (pointCapacity t) (cellCapacity t w) (m .points) (m .cells) t (A .mesh)
+  abbrev node : NodeOf m t bytes d
+  node = A .node
 
-  pub node-mesh : MeshOf t (d .points) (d .cells)
-  node-mesh = record {
-    X = m .x;
-    Y = m .y;
-    Z = m .z;
-    w = w;
-    mesh =
-        subst (λ k. IsMesh (m .x) (m .y) (m .z) (pointCapacity t) (cellCapacity t w) k (d .cells) t) (sym (A .points-are))
-        (subst (λ k. IsMesh (m .x) (m .y) (m .z) (pointCapacity t) (cellCapacity t w) (m .points) k t) (sym (A .cells-are)) M);
-  }
-
-  pub cells≤ : m .cells ≤ 4096
-  cells≤ = omega (arith, M .cells≤, room-of t w .cells≤)
-
-  pub points≤ : m .points ≤ 1024
-  points≤ = omega (arith, M .points≤, room-of t w .points≤)
-
-  pub node-range : InRange p
+  node-range : InRange p
   node-range =
-      let b = box-in {X = m .x} {Y = m .y} {Z = m .z} {p = p} (A .box) in
-      record { x≤ = omega (arith, b .x≤, M .sideX .high); y≤ = omega (arith, b .y≤, M .sideY .high); z≤ = omega (arith, b .z≤, M .sideZ .high) }
+      let b = box-in {X = m .x} {Y = m .y} {Z = m .z} {p = p} (A .place .box) in
+      record { x≤ = omega (arith, b .x≤, M node .sideX .high); y≤ = omega (arith, b .y≤, M node .sideY .high); z≤ = omega (arith, b .z≤, M node .sideZ .high) }
+
+  pub answerable : Answerable t bytes d
+  answerable = record { mesh = node-mesh node; position = node-range; answered = λ e. omega (arith, node .answered e, node .cells-are) }
 
   pub next-point : m .points < pointCapacity t
-  next-point = omega (arith, M .points≤, eqb-false (m .points) (pointCapacity t) (A .next))
+  next-point = omega (arith, M node .points≤, eqb-false (m .points) (pointCapacity t) (A .place .next))
 
-  module _ {st li fa : List ℕ} {r : Extent} (H′ : Hollow a t p (d .cells) st li fa r) where
+  -- ---- tests 7 and 8
+
+  module _ {st li fa : List ℕ} {r : Extent} (H′ : CavityFound a t p (d .cells) st li fa r) where
     -- the same with the record's own count
-    H : Hollow a t p (m .cells) st li fa r
-    H = subst (λ n. Hollow a t p n st li fa r) (A .cells-are) H′
+    pub H : CavityFound a t p (m .cells) st li fa r
+    H = subst (λ n. CavityFound a t p n st li fa r) (node .cells-are) H′
 
-    pub unheld-node : r .before ≡ 0 → NodeLeaves m t w p a (Refused 7) t
-    unheld-node e =
-        refused-node m t w p a (is-unheld m t w p a (A .box) (A .free) (A .next) (H .held ∙ ap not (eq-eqb (r .before) 0 e))) (omega arith)
+    pub unheld-node : r .before ≡ 0 → {k : ℕ} {nu : List ℕ} → Tested m t bytes d st li fa nu record { refusal = 7; extent = r; made = k }
+    unheld-node e = record {
+      refusal-is = sym (is-unheld m t (d .work) p a (A .place .box) (A .place .free) (A .place .next) (H .held ∙ ap not (eq-eqb (r .before) 0 e)));
+      starable = λ z. absurd (omega arith);
+    }
 
     module _ (some : r .before ≢ 0) where
       abbrev n : ℕ
@@ -99,94 +156,66 @@ module _ {m : Mesh} {t : Tables} {w : ℕ} {bytes : List ℕ} {d : Node} (A : Ad
       held-node : anyBelow n (holds t p) ≡ true
       held-node = H .held ∙ ap not (ne-eqb (r .before) 0 some)
 
-      last-is : s ≡ lastCavity m t p a
+      pub last-is : s ≡ lastCavity m t p a
       unfolding lastCavity
       last-is = H .set some
 
-      made-is : {k : ℕ} → k ≡ madeCount t (d .cells) p (setOf (d .cells) st) → k ≡ cellsMade m t p a
+      pub made-is : {k : ℕ} → k ≡ madeCount t (d .cells) p (setOf (d .cells) st) → k ≡ cellsMade m t p a
       unfolding cellsMade
-      made-is e = e ∙ (ap (λ n. madeCount t n p (setOf n st)) (A .cells-are) ∙ ap (madeCount t n p) last-is)
+      made-is e = e ∙ (ap (λ n. madeCount t n p (setOf n st)) (node .cells-are) ∙ ap (madeCount t n p) last-is)
 
-      starlike : Starlike t n p s
-      starlike =
+      pub star-shaped : StarShaped t n p s
+      star-shaped =
           let f = any-found n (holds t p) held-node in
-          subst (Starlike t n p) (sym (H .set some))
-          (corrected-starlike M (room-of t w) p free (isYes a t p) (f .at) (base-at t n p (f .at) (f .below) ∙ f .passes))
+          subst (StarShaped t n p) (sym (H .set some))
+          (corrected-star-shaped (M node) (room-of t (d .work)) p free (saysYes a t p) (f .at) (base-at t n p (f .at) (f .below) ∙ f .passes))
         where
           free : (k : ℕ) → k < m .points → p ≢ point t k
-          free k l q = clash (any-intro (m .points) (λ k. samePosition (point t k) p) k l (same-position-yes (point t k) p (sym q))) (A .free)
+          free k l q = clash (any-intro (m .points) (λ k. samePosition (point t k) p) k l (same-position-yes (point t k) p (sym q))) (A .place .free)
 
-      after≤ : r .after ≤ n
+      pub after≤ : r .after ≤ n
       after≤ = omega (arith, H .list some .counted, count-le n (inside st))
 
-      before≤ : r .before ≤ n
+      pub before≤ : r .before ≤ n
       unfolding cavitySize
-      before≤ = omega (arith, H .before-is some, count-le n (inSet (cavityOf t n p (isYes a t p))))
+      before≤ = omega (arith, H .before-is some, count-le n (inSet (cavityOf t n p (saysYes a t p))))
 
-      pub full-node : {k c : ℕ} → k ≡ madeCount t (d .cells) p (setOf (d .cells) st) → c ≡ cellCapacity t w → c < d .cells + k → NodeLeaves m t w p a (Refused 8) t
-      full-node {k} {c} e f l =
-          refused-node m t w p a
-          (is-cells-full m t w p a (A .box) (A .free) (A .next) held-node
-          (lt-ltb (cellCapacity t w) (n + cellsMade m t p a) (omega (arith, l, made-is e, f, A .cells-are)))) (omega arith)
+      full-is : ltb (cellCapacity t (d .work)) (d .cells + madeCount t (d .cells) p (setOf (d .cells) st)) ≡ ltb (cellCapacity t (d .work)) (n + cellsMade m t p a)
+      full-is = ap₂ (λ n k. ltb (cellCapacity t (d .work)) (n + k)) (node .cells-are) (made-is refl)
 
-      module _ {made c : ℕ} (e : made ≡ madeCount t (d .cells) p (setOf (d .cells) st)) (f : c ≡ cellCapacity t w) (l : d .cells + made ≤ c) where
-        pub to-replace : {nu : List ℕ} → Lookup nu → Numbered t (d .cells) p (setOf (d .cells) st) nu → Replacing t (d .points) (d .cells) p st li (r .after) fa nu made
-        unfolding node-mesh
-        to-replace h N = record {
-          mesh = node-mesh;
-          ready = record {
-            like = subst (λ n. Starlike t n p (setOf n st)) (sym (A .cells-are)) starlike;
-            inspected = H′ .coded some;
-            numbered = N;
-            codes = H′ .codes;
-            numbers = h;
-            room = omega (arith, l, e, f);
-          };
-          listed = H′ .list some;
-          counted = e;
-          next = subst (λ k. k < pointCapacity t) (sym (A .points-are)) next-point;
-        }
+      pub no-refusal : {k : ℕ} → k ≡ madeCount t (d .cells) p (setOf (d .cells) st) → d .cells + k ≤ cellCapacity t (d .work) → nodeRefusal m t (d .work) p a ≡ 0
+      no-refusal e l =
+          is-accepted m t (d .work) p a (A .place .box) (A .place .free) (A .place .next) held-node
+          (le-ltb (cellCapacity t (d .work)) (n + cellsMade m t p a) (omega (arith, l, made-is e, node .cells-are)))
 
-        pub accepted-asks : (m .points ≤ 1024) × (m .cells ≤ 4096) × (r .before ≤ 4096) × (r .after ≤ m .cells) × (made ≤ 16384)
-        accepted-asks =
-            (points≤, cells≤, omega (arith, before≤, cells≤), after≤, omega (arith, l, f, room-of t w .cells≤))
+      pub last-test : {f : Found} {nu : List ℕ} → f ≡ starFound t d (setOf (d .cells) st) r → Numbered t (d .cells) p (setOf (d .cells) st) nu → Lookup nu →
+          Tested m t bytes d st li fa nu f
+      unfolding starFound
+      last-test {f} {nu} e N h = subst (Tested m t bytes d st li fa nu) (sym e) (go (split full))
+        where
+          full : Bool
+          full = ltb (cellCapacity t (d .work)) (d .cells + madeCount t (d .cells) p (setOf (d .cells) st))
 
-        none-refused : nodeRefusal m t w p a ≡ 0
-        none-refused =
-            is-accepted m t w p a (A .box) (A .free) (A .next) held-node
-            (le-ltb (cellCapacity t w) (n + cellsMade m t p a) (omega (arith, l, made-is e, f, A .cells-are)))
-
-        kept-is : n - r .after ≡ keptCount n (lastCavity m t p a)
-        unfolding cavitySize keptCount lastCavity
-        kept-is = omega (arith, H .after-is some, count-not n (inSet (correctedCavity t n p (isYes a t p))))
-
-        after-is : r .after ≡ cavitySize n (lastCavity m t p a)
-        unfolding lastCavity
-        after-is = H .after-is some
-
-        answer-is : acceptedWith m r made ≡ Accepted (insertedMesh m t p a) (reportOf m t p a)
-        unfolding acceptedWith insertedMesh reportOf newCount firstCavity cellsMade
-        answer-is =
-            let q : made ≡ madeCount t n p (lastCavity m t p a) = made-is e in
-            λ i. Accepted
-            record { x = m .x; y = m .y; z = m .z; points = m .points + 1; cells = kept-is i + q i }
-            record { point = m .points; before = H .before-is some i; after = after-is i; made = q i; least = H .least-is some i }
-
-        pub accepted-leaves : {g : Inserted} {ps cs ns : List ℕ} → g ≡ acceptedWith m r made → ps ≡ newPoints t p (d .points) →
-            cs ≡ newCorners t (d .cells) p (d .points) (setOf (d .cells) st) → ns ≡ newNeighbours t (d .cells) p (setOf (d .cells) st) →
-            NodeLeaves m t w p a g (tables ps cs ns)
-        unfolding insertedTables star
-        accepted-leaves {g} {ps} {cs} {ns} eg ep ec en =
-            let q = node-accepted m t w p a none-refused in
-            let cc : cs ≡ newCorners t n p (m .points) (lastCavity m t p a) =
-            ec ∙ (ap₂ (λ k n. newCorners t n p k (setOf n st)) (A .points-are) (A .cells-are) ∙ ap (newCorners t n p (m .points)) last-is) in
-            let nn : ns ≡ newNeighbours t n p (lastCavity m t p a) =
-            en ∙ (ap (λ n. newNeighbours t n p (setOf n st)) (A .cells-are) ∙ ap (newNeighbours t n p) last-is) in
-            let pp : ps ≡ newPoints t p (m .points) = ep ∙ ap (newPoints t p) (A .points-are) in
-            record {
-              answer = eg ∙ (answer-is ∙ sym (ap (λ l. l .answer) q));
-              tables = (λ i. tables (pp i) (cc i) (nn i)) ∙ sym (ap (λ l. l .tables) q);
-            }
+          go : (full ≡ true) ⊎ (full ≡ false) → Tested m t bytes d st li fa nu (starFound t d (setOf (d .cells) st) r)
+          go (inl q) = record {
+            refusal-is = rw q (sym (is-cells-full m t (d .work) p a (A .place .box) (A .place .free) (A .place .next) held-node (sym full-is ∙ q)));
+            starable = λ z. absurd (eight (rw q at z));
+          }
+            where
+              eight : _≡_ {A = ℕ} 8 0 → ⊥
+              eight z = omega arith
+          go (inr q) = record {
+            refusal-is = rw q (sym (no-refusal refl (ltb-false (cellCapacity t (d .work)) (d .cells + madeCount t (d .cells) p (setOf (d .cells) st)) q)));
+            starable = λ z. record {
+              admitted = A;
+              found = H′;
+              some = some;
+              counted = refl;
+              numbered = N;
+              numbers = h;
+              room = ltb-false (cellCapacity t (d .work)) (d .cells + madeCount t (d .cells) p (setOf (d .cells) st)) q;
+            };
+          }
 
 -- ---- the codes
 
@@ -238,27 +267,3 @@ taken-is t np q h {codes} e =
   where
     each : (k : ℕ) → k < np → eqb (getD codes k 0) 0 ≡ samePosition (point t k) q
     each k l = ap (λ x. eqb x 0) (ap (λ c. getD c k 0) e ∙ code-at (t .points) np q h k l) ∙ code-zero (point t k) q
-
--- ---- what the code asks on the way
-
-module _ {ps cs ns : List ℕ} {m : Mesh} {w : ℕ} {bytes : List ℕ} {d : Node} (A : Admitted m (tables ps cs ns) w bytes d) where
-  pub node-cells≤ : d .cells ≤ 4096
-  node-cells≤ = omega (arith, cells≤ A, A .cells-are)
-
-  pub made-fits : {k : ℕ} (s : List Bool) → k ≡ madeCount (tables ps cs ns) (d .cells) (d .position) s → d .cells + k < 2 ^ 64
-  unfolding madeCount
-  made-fits {k} s e = omega (arith, e, count-le (4 * d .cells) (visible (tables ps cs ns) (d .position) s), node-cells≤)
-
-  pub point-room : HasPoint (d .points) ps
-  point-room = record {
-    few = omega (arith, A .points-are, next-point A, room-of (tables ps cs ns) w .points≤);
-    fits = omega (arith, A .points-are, next-point A, room-of (tables ps cs ns) w .points-fit);
-  }
-
--- the new points do not look at the other tables
-pub points-only : (ps cs ns : List ℕ) (p : Position) (v : ℕ) → newPoints (tables ps [] []) p v ≡ newPoints (tables ps cs ns) p v
-unfolding newPoints
-points-only ps cs ns p v = refl
-
-pub node-ready : {ps cs ns : List ℕ} {m : Mesh} {w : ℕ} {bytes : List ℕ} {d : Node} → Admitted m (tables ps cs ns) w bytes d → Ready ps cs ns bytes d
-node-ready A = record { mesh = node-mesh A; position = node-range A; answered = λ e. omega (arith, A .answered e, A .cells-are) }

@@ -13,7 +13,7 @@ use Rattle.mesh.specs.Tables.{Tables, pointCapacity, cellCapacity, point}
 use Rattle.mesh.specs.Check.{isMesh}
 use Rattle.mesh.proofs.Room.{room-of}
 use Rattle.mesh.proofs.Checked.{check-mesh, mesh-check}
-use Rattle.cavity.specs.Answers.{Answers, isYes}
+use Rattle.cavity.specs.Answers.{Answers, saysYes}
 use Rattle.cavity.proofs.Correction.{base-at}
 use Rattle.star.specs.Star.{newPoints, newCorners, newNeighbours, star}
 use Rattle.star.proofs.NewMesh.{insertion, Inserted}
@@ -41,7 +41,7 @@ module _ (m : Mesh) (t : Tables) (v w : ℕ) (p : Position) (a : Answers) (M : M
   unfolding lastCavity cellsMade
   inserted =
       insertion M (room-of t v) p (N .box) (N .free) (N .holder .at)
-      (base-at t (m .cells) p (N .holder .at) (N .holder .below) ∙ N .holder .passes) (isYes a t p)
+      (base-at t (m .cells) p (N .holder .at) (N .holder .below) ∙ N .holder .passes) (saysYes a t p)
       (omega (arith, M .points≤, N .next)) (omega (arith, N .cells, h))
 
   pub inserted-mesh : MeshFor (insertedMesh m t p a) (insertedTables m t p a) v

@@ -14,18 +14,19 @@ use Rattle.mesh.specs.Tables.{Tables, pointCapacity, cellCapacity, cleared}
 use Rattle.mesh.proofs.Room.{room-of}
 use Rattle.mesh.proofs.Checked.{check-mesh}
 use Rattle.mesh.specs.Check.{isMesh}
-use Rattle.meshcheck.specs.Refusal.{meshRefusal}
-use Rattle.meshcheck.proofs.Verdict.{passed}
+use Rattle.mesh.specs.Refusal.{meshRefusal}
+use Rattle.mesh.proofs.Verdict.{passed}
 use Rattle.cavity.specs.Answers.{Answers, sphere}
+use Rattle.insertion.specs.declared.Attempt.{Attempt}
 use Rattle.insertion.specs.declared.Inserted.{Inserted}
 use Rattle.insertion.specs.declared.Inserted.the-variants.{Accepted, Refused}
 use Rattle.insertion.specs.declared.Listed.{Listed}
-use Rattle.insertion.specs.declared.Listed.the-variants.{Ended, Refused as AllRefused}
+use Rattle.insertion.specs.declared.Listed.the-variants.{Ended, Stopped, Refused as AllRefused}
 use Rattle.insertion.specs.declared.Report.{Report}
 use Rattle.insertion.specs.Insertion.{fewerBytes, InsertLeaves}
-use Rattle.insertion.specs.List.{ListLeaves, insertFrom, listedNode, nodeCount}
-use Rattle.insertion.specs.Inner.{NodeLeaves, NodesLeave, stoppedBy}
-use Rattle.insertion.proofs.Refusals.{refused-leaves, node-leaves}
+use Rattle.insertion.specs.List.{ListLeaves, insertFrom, listedNode, listedCount}
+use Rattle.insertion.specs.Inner.{NodeLeaves, AttemptLeaves, NodesLeave}
+use Rattle.insertion.proofs.Refusals.{refused-number, refused-leaves, node-leaves}
 use Rattle.insertion.proofs.Growing.{accepted-checks, one-point-more}
 use Rattle.insertion.proofs.Steps.{list-goes-on, list-stops, list-ends, list-refused-leaves, list-leaves}
 
@@ -62,7 +63,7 @@ module _ (m : Mesh) (t : Tables) (ws : List ℕ) {ws′ : List ℕ} (c : ws′ �
     pub list-at : {k : ℕ} {r : Listed} {t′ : Tables} → k ≡ meshRefusal m t (length ws′) false → k ≡ 0 → NodesLeave m t (length ws′) ns r t′ → ListLeaves m t ws ns r t′ ws′
     list-at {k} {r} {t′} e z L =
         let N = subst (λ w. NodesLeave m t w ns r t′) same-work L in
-        let q = list-leaves m t ws ws′ ns c {l = insertFrom (nodeCount ns) 0 m t (length ws) ns} (sym (e ∙ ap (λ w. meshRefusal m t w false) same-work) ∙ z) refl in
+        let q = list-leaves m t ws ws′ ns c {l = insertFrom (listedCount ns) 0 m t (length ws) ns} (sym (e ∙ ap (λ w. meshRefusal m t w false) same-work) ∙ z) refl in
         record { answer = N .answer ∙ q .answer; tables = N .tables ∙ q .tables; work = c }
 
 -- ---- the nodes of a list
@@ -75,7 +76,7 @@ pub record Inserting (m₀ : Mesh) (t₀ : Tables) (w : ℕ) (ns : List ℕ) (m 
   pub points-long : length (t .points) ≡ length (t₀ .points)
   pub corners-long : length (t .corners) ≡ length (t₀ .corners)
   pub neighbours-long : length (t .neighbours) ≡ length (t₀ .neighbours)
-  pub rest : insertFrom (nodeCount ns - i) i m t w ns ≡ insertFrom (nodeCount ns) 0 m₀ t₀ w ns
+  pub rest : insertFrom (listedCount ns - i) i m t w ns ≡ insertFrom (listedCount ns) 0 m₀ t₀ w ns
 
 counted : (m : Mesh) (t : Tables) (w : ℕ) → isMesh m t w ≡ true → (8 ≤ m .points) × (m .points ≤ 1024)
 counted m t w e =
@@ -90,7 +91,7 @@ none-yet m t w ns e = record {
   points-long = refl;
   corners-long = refl;
   neighbours-long = refl;
-  rest = let q : nodeCount ns - 0 ≡ nodeCount ns = omega arith in ap (λ k. insertFrom k 0 m t w ns) q;
+  rest = let q : listedCount ns - 0 ≡ listedCount ns = omega arith in ap (λ k. insertFrom k 0 m t w ns) q;
 }
 
 module _ {m₀ : Mesh} {t₀ : Tables} {w : ℕ} {ns : List ℕ} {m : Mesh} {t : Tables} {i : ℕ} (P : Inserting m₀ t₀ w ns m t i) where
@@ -98,31 +99,31 @@ module _ {m₀ : Mesh} {t₀ : Tables} {w : ℕ} {ns : List ℕ} {m : Mesh} {t :
   pub place< : i < 1024
   place< = omega (arith, P .began, P .count, counted m t w (P .mesh) .1)
 
-  pub one-more : i < nodeCount ns → {m′ : Mesh} {r : Report} {t′ : Tables} → NodeLeaves m t w (listedNode ns i) sphere (Accepted m′ r) t′ →
+  pub one-more : i < listedCount ns → {m′ : Mesh} {r : Report} {g : Attempt} {t′ : Tables} → AttemptLeaves m t w (listedNode ns i) sphere g t′ → g .inserted ≡ Accepted m′ r →
       length (t′ .points) ≡ length (t .points) → length (t′ .corners) ≡ length (t .corners) → length (t′ .neighbours) ≡ length (t .neighbours) →
       Inserting m₀ t₀ w ns m′ t′ (i + 1)
-  one-more h {m′} {r} {t′} L a b c = record {
+  one-more h {m′} {r} {t′ = t′} L q a b c = record {
     began = P .began;
-    mesh = accepted-checks m t w (listedNode ns i) sphere (P .mesh) (L .answer) (L .tables);
-    count = omega (arith, one-point-more m t w (listedNode ns i) sphere (L .answer), P .count);
+    mesh = accepted-checks m t w (listedNode ns i) sphere (P .mesh) (sym q ∙ L .leaves .answer) (L .leaves .tables);
+    count = omega (arith, one-point-more m t w (listedNode ns i) sphere (sym q ∙ L .leaves .answer), P .count);
     points-long = a ∙ P .points-long;
     corners-long = b ∙ P .corners-long;
     neighbours-long = c ∙ P .neighbours-long;
-    rest = sym (list-goes-on m t w ns i (nodeCount ns) h (L .answer) (L .tables)) ∙ P .rest;
+    rest = sym (list-goes-on m t w ns i (listedCount ns) h (sym q ∙ L .leaves .answer) (L .leaves .tables)) ∙ P .rest;
   }
 
-  pub stops-here : i < nodeCount ns → {r : Inserted} {e : ℕ} {t′ : Tables} → NodeLeaves m t w (listedNode ns i) sphere r t′ → r ≡ Refused e →
-      {g : Listed} → g ≡ stoppedBy m i r → NodesLeave m₀ t₀ w ns g t′
-  unfolding stoppedBy
-  stops-here h {r} {e} {t′} L q f =
-      let s = sym (P .rest) ∙ list-stops m t w ns i (nodeCount ns) h (sym q ∙ L .answer) (L .tables) in
-      record { answer = f ∙ (ap (stoppedBy m i) q ∙ sym (ap (λ l. l .answer) s)); tables = sym (ap (λ l. l .tables) s) }
+  pub stops-here : i < listedCount ns → {g : Attempt} {e : ℕ} {t′ : Tables} → AttemptLeaves m t w (listedNode ns i) sphere g t′ → g .inserted ≡ Refused e →
+      NodesLeave m₀ t₀ w ns (Stopped m i (g .refusal)) t′
+  stops-here h {g} {e} L q =
+      let s = sym (P .rest) ∙ list-stops m t w ns i (listedCount ns) h (sym q ∙ L .leaves .answer) (L .leaves .tables) in
+      let z : g .refusal ≡ e = L .refusal ∙ refused-number m t w (listedNode ns i) sphere (sym q ∙ L .leaves .answer) in
+      record { answer = ap (Stopped m i) z ∙ sym (ap (λ l. l .answer) s); tables = sym (ap (λ l. l .tables) s) }
 
-  pub ends-here : nodeCount ns ≤ i → NodesLeave m₀ t₀ w ns (Ended m i) t
+  pub ends-here : listedCount ns ≤ i → NodesLeave m₀ t₀ w ns (Ended m i) t
   ends-here h =
-      let s = sym (P .rest) ∙ list-ends m t w ns i (nodeCount ns) h in
+      let s = sym (P .rest) ∙ list-ends m t w ns i (listedCount ns) h in
       record { answer = sym (ap (λ l. l .answer) s); tables = sym (ap (λ l. l .tables) s) }
 
 -- the node as it was read off the list
-pub node-read : {m : Mesh} {t : Tables} {w : ℕ} {p q : Position} {a : Answers} {r g : Inserted} {t′ : Tables} → p ≡ q → g ≡ r → NodeLeaves m t w p a g t′ → NodeLeaves m t w q a r t′
-node-read {m} {t} {w} {p} {q} {a} {r} {g} {t′} e f L = subst (λ p. NodeLeaves m t w p a r t′) e (subst (λ g. NodeLeaves m t w p a g t′) f L)
+pub node-read : {m : Mesh} {t : Tables} {w : ℕ} {p q : Position} {a : Answers} {r : Attempt} {t′ : Tables} → p ≡ q → AttemptLeaves m t w p a r t′ → AttemptLeaves m t w q a r t′
+node-read {m} {t} {w} {a = a} {r = r} {t′ = t′} e L = subst (λ p. AttemptLeaves m t w p a r t′) e L

@@ -19,7 +19,7 @@ use Rattle.mesh.specs.declared.Mesh.{Mesh}
 use Rattle.mesh.specs.Tables.{Tables, pointCapacity, cellCapacity, cleared, point}
 use Rattle.mesh.specs.Mesh.{IsMesh}
 use Rattle.mesh.proofs.Checked.{same-position-yes}
-use Rattle.meshcheck.specs.Refusal.{meshRefusal}
+use Rattle.mesh.specs.Refusal.{meshRefusal}
 use Rattle.locate.specs.Locate.{holds}
 use Rattle.cavity.specs.Answers.{Answers}
 use Rattle.insertion.specs.declared.Report.{Report}
@@ -155,6 +155,17 @@ module _ (m : Mesh) (t : Tables) (w : ℕ) (p : Position) (a : Answers) where
       go (no h) =
           let f : Accepted m′ r ≡ Refused (nodeRefusal m t w p a) = e ∙ ap (λ l. l .answer) (node-refused refl h) in
           let z : _≡_ {A = ℕ} 0 1 = cc in absurd (omega arith)
+
+  -- an answer without one: the number is the refusal's
+  pub refused-number : {e : ℕ} → Refused e ≡ insertNode m t w p a .answer → nodeRefusal m t w p a ≡ e
+  refused-number {e} q = go (ℕ-discrete (nodeRefusal m t w p a) 0)
+    where
+      go : Dec (nodeRefusal m t w p a ≡ 0) → nodeRefusal m t w p a ≡ e
+      go (yes h) =
+          let f : Refused e ≡ Accepted (insertedMesh m t p a) (reportOf m t p a) = q ∙ ap (λ l. l .answer) (node-accepted h) in
+          let z : _≡_ {A = ℕ} 0 1 = cc in absurd (omega arith)
+      go (no h) =
+          let f : Refused e ≡ Refused (nodeRefusal m t w p a) = q ∙ ap (λ l. l .answer) (node-refused refl h) in cc
 
 -- ---- the contract of a call
 

@@ -10,21 +10,21 @@ use borrow.Author.Tests.{ne-eqb}
 use lib.ListN.{length}
 use Rattle.mesh.specs.declared.Mesh.{Mesh}
 use Rattle.mesh.specs.Tables.{Tables, cleared}
-use Rattle.meshcheck.specs.Refusal.{meshRefusal}
+use Rattle.mesh.specs.Refusal.{meshRefusal}
 use Rattle.cavity.specs.Answers.{sphere}
 use Rattle.insertion.specs.declared.Report.{Report}
 use Rattle.insertion.specs.declared.Inserted.the-variants.{Accepted, Refused}
 use Rattle.insertion.specs.declared.Listed.{Listed}
 use Rattle.insertion.specs.declared.Listed.the-variants.{Ended, Stopped, Refused as AllRefused}
 use Rattle.insertion.specs.Insertion.{Result, insertNode}
-use Rattle.insertion.specs.List.{listedNode, nodeCount, insertFrom, listCall, ListLeaves}
+use Rattle.insertion.specs.List.{listedNode, listedCount, insertFrom, listCall, ListLeaves}
 
 module _ (m : Mesh) (t : Tables) (w : ℕ) (ns : List ℕ) where
   pub list-refused : {r : ℕ} → meshRefusal m t w false ≡ r → r ≢ 0 → listCall m t w ns ≡ record { answer = AllRefused r; tables = t }
   unfolding listCall
   list-refused {r} e d = rw (e, ne-eqb r 0 d)
 
-  pub list-begins : meshRefusal m t w false ≡ 0 → listCall m t w ns ≡ insertFrom (nodeCount ns) 0 m t w ns
+  pub list-begins : meshRefusal m t w false ≡ 0 → listCall m t w ns ≡ insertFrom (listedCount ns) 0 m t w ns
   unfolding listCall
   list-begins e = rw e
 
@@ -72,7 +72,7 @@ module _ (m : Mesh) (t : Tables) (ws ws′ ns : List ℕ) (c : ws′ ≡ cleared
       record { answer = sym (ap (λ l. l .answer) q); tables = sym (ap (λ l. l .tables) q); work = c }
 
   -- l is what the nodes from the first on give
-  pub list-leaves : {l : Result Listed} → meshRefusal m t (length ws) false ≡ 0 → insertFrom (nodeCount ns) 0 m t (length ws) ns ≡ l →
+  pub list-leaves : {l : Result Listed} → meshRefusal m t (length ws) false ≡ 0 → insertFrom (listedCount ns) 0 m t (length ws) ns ≡ l →
       ListLeaves m t ws ns (l .answer) (l .tables) ws′
   list-leaves e f =
       let q = list-begins m t (length ws) ns e ∙ f in

@@ -1,58 +1,100 @@
 -- What the inner functions of an insertion ask and leave.
 use Prim.Native.Nat.{ℕ, _+_, _-_, _≤_}
-use mathlib.Core.Bool.{Bool, true, false}
+use mathlib.Core.Bool.{Bool, true, false, cond}
 use mathlib.Core.List.{List}
+use mathlib.Core.Logic.{_≢_}
 use mathlib.Core.Path.{_≡_}
-use lib.Dec.{eqb}
+use lib.Dec.{ltb, eqb}
 use lib.ListN.{length, getD}
 use Rattle.arith.specs.Table.{anyBelow}
 use Rattle.geometry.specs.declared.Position.{Position}
 use Rattle.geometry.specs.Volume.{inBox, samePosition}
 use Rattle.mesh.specs.declared.Mesh.{Mesh}
-use Rattle.mesh.specs.Tables.{Tables, pointCapacity, point}
+use Rattle.mesh.specs.Tables.{Tables, pointCapacity, cellCapacity, point}
 use Rattle.mesh.specs.Check.{isMesh}
 use Rattle.cavity.specs.declared.Node.{Node}
 use Rattle.cavity.specs.declared.Extent.{Extent}
-use Rattle.cavity.specs.Answers.{Answers}
+use Rattle.cavity.specs.Answers.{Answers, answersOf}
+use Rattle.cavity.specs.Inner.{setOf, CavityFound}
+use Rattle.star.specs.Star.{madeCount}
+use Rattle.star.specs.Inner.{Lookup, Numbered}
+use Rattle.insertion.specs.declared.Found.{Found}
+use Rattle.insertion.specs.declared.Attempt.{Attempt}
 use Rattle.insertion.specs.declared.Inserted.{Inserted}
-use Rattle.insertion.specs.declared.Inserted.the-variants.{Accepted, Refused}
+use Rattle.insertion.specs.declared.Inserted.the-variants.{Accepted}
 use Rattle.insertion.specs.declared.Listed.{Listed}
-use Rattle.insertion.specs.declared.Listed.the-variants.{Ended, Stopped}
-use Rattle.insertion.specs.Insertion.{insertNode}
-use Rattle.insertion.specs.List.{nodeCount, insertFrom}
+use Rattle.insertion.specs.Insertion.{nodeRefusal, insertNode}
+use Rattle.insertion.specs.List.{listedCount, insertFrom}
 
 -- one of the first np codes is 0: a point lies at the position
 unfoldable pub someZero : List ℕ → ℕ → Bool
 someZero codes np = anyBelow np (λ k. eqb (getD codes k 0) 0)
 
--- a node of a mesh that has passed tests 1 to 6
-pub record Admitted (m : Mesh) (t : Tables) (w : ℕ) (bytes : List ℕ) (d : Node) : Type 0 where
-  pub mesh : isMesh m t w ≡ true
+-- a position in the box at which no point stands, and room for a point: tests 4 to 6 let it pass
+pub record FreePlace (m : Mesh) (t : Tables) (p : Position) : Type 0 where
+  pub box : inBox (m .x) (m .y) (m .z) p ≡ true
+  pub free : anyBelow (m .points) (λ k. samePosition (point t k) p) ≡ false
+  pub next : eqb (m .points) (pointCapacity t) ≡ false
+
+-- the number r of tests 4 to 6, 0 where they let p pass
+pub record PointTests (m : Mesh) (t : Tables) (p : Position) (r : ℕ) : Type 0 where
+  pub refuses : r ≢ 0 → (w : ℕ) (a : Answers) → nodeRefusal m t w p a ≡ r
+  pub passes : r ≡ 0 → FreePlace m t p
+
+-- a node of a mesh that has passed tests 1 to 3
+pub record NodeOf (m : Mesh) (t : Tables) (bytes : List ℕ) (d : Node) : Type 0 where
+  pub mesh : isMesh m t (d .work) ≡ true
   pub points-are : d .points ≡ m .points
   pub cells-are : d .cells ≡ m .cells
-  pub box : inBox (m .x) (m .y) (m .z) (d .position) ≡ true
-  pub free : anyBelow (m .points) (λ k. samePosition (point t k) (d .position)) ≡ false
-  pub next : eqb (m .points) (pointCapacity t) ≡ false
   pub answered : d .handed ≡ true → m .cells ≤ length bytes
 
--- the record and the report of a node accepted with the cavity e and the given number of cells made
-unfoldable pub acceptedWith : Mesh → Extent → ℕ → Inserted
-acceptedWith m e made =
+-- and tests 4 to 6
+pub record Admitted (m : Mesh) (t : Tables) (bytes : List ℕ) (d : Node) : Type 0 where
+  pub node : NodeOf m t bytes d
+  pub place : FreePlace m t (d .position)
+
+-- and tests 7 and 8: its cavity is found, the cells are numbered, and there is room for the star
+pub record Starable (m : Mesh) (t : Tables) (bytes : List ℕ) (d : Node) (st li fa nu : List ℕ) (r : Found) : Type 0 where
+  pub admitted : Admitted m t bytes d
+  pub found : CavityFound (answersOf (d .handed) bytes) t (d .position) (d .cells) st li fa (r .extent)
+  pub some : r .extent .before ≢ 0
+  pub counted : r .made ≡ madeCount t (d .cells) (d .position) (setOf (d .cells) st)
+  pub numbered : Numbered t (d .cells) (d .position) (setOf (d .cells) st) nu
+  pub numbers : Lookup nu
+  pub room : d .cells + r .made ≤ cellCapacity t (d .work)
+
+-- test 8 of a node with the cavity s, of extent e
+unfoldable pub starFound : Tables → Node → List Bool → Extent → Found
+starFound t d s e =
+    record {
+      refusal = cond (ltb (cellCapacity t (d .work)) (d .cells + madeCount t (d .cells) (d .position) s)) 8 0;
+      extent = e;
+      made = madeCount t (d .cells) (d .position) s;
+    }
+
+-- what tests 4 to 8 answer
+pub record Tested (m : Mesh) (t : Tables) (bytes : List ℕ) (d : Node) (st li fa nu : List ℕ) (r : Found) : Type 0 where
+  pub refusal-is : r .refusal ≡ nodeRefusal m t (d .work) (d .position) (answersOf (d .handed) bytes)
+  pub starable : r .refusal ≡ 0 → Starable m t bytes d st li fa nu r
+
+-- the record and the report of a node accepted with this cavity and star
+unfoldable pub acceptedWith : Mesh → Found → Inserted
+acceptedWith m r =
     Accepted
-    record { x = m .x; y = m .y; z = m .z; points = m .points + 1; cells = m .cells - e .after + made }
-    record { point = m .points; before = e .before; after = e .after; made = made; least = e .least }
+    record { x = m .x; y = m .y; z = m .z; points = m .points + 1; cells = m .cells - r .extent .after + r .made }
+    record { point = m .points; before = r .extent .before; after = r .extent .after; made = r .made; least = r .extent .least }
 
 -- what a node after tests 1 to 3 answers and leaves
 pub record NodeLeaves (m : Mesh) (t : Tables) (w : ℕ) (p : Position) (a : Answers) (r : Inserted) (t′ : Tables) : Type 0 where
   pub answer : r ≡ insertNode m t w p a .answer
   pub tables : t′ ≡ insertNode m t w p a .tables
 
--- a list stops where its node at this place answers so
-unfoldable pub stoppedBy : Mesh → ℕ → Inserted → Listed
-stoppedBy m place (Accepted m′ r) = Ended m′ place
-stoppedBy m place (Refused e) = Stopped m place e
+-- the same with the refusal's number
+pub record AttemptLeaves (m : Mesh) (t : Tables) (w : ℕ) (p : Position) (a : Answers) (r : Attempt) (t′ : Tables) : Type 0 where
+  pub refusal : r .refusal ≡ nodeRefusal m t w p a
+  pub leaves : NodeLeaves m t w p a (r .inserted) t′
 
 -- what a list after tests 1 to 3 answers and leaves
 pub record NodesLeave (m : Mesh) (t : Tables) (w : ℕ) (ns : List ℕ) (r : Listed) (t′ : Tables) : Type 0 where
-  pub answer : r ≡ insertFrom (nodeCount ns) 0 m t w ns .answer
-  pub tables : t′ ≡ insertFrom (nodeCount ns) 0 m t w ns .tables
+  pub answer : r ≡ insertFrom (listedCount ns) 0 m t w ns .answer
+  pub tables : t′ ≡ insertFrom (listedCount ns) 0 m t w ns .tables

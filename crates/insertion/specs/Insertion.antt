@@ -10,9 +10,9 @@ use Rattle.geometry.specs.declared.Position.{Position}
 use Rattle.geometry.specs.Volume.{inBox, samePosition}
 use Rattle.mesh.specs.declared.Mesh.{Mesh}
 use Rattle.mesh.specs.Tables.{Tables, pointCapacity, cellCapacity, cleared, point}
-use Rattle.meshcheck.specs.Refusal.{meshRefusal}
+use Rattle.mesh.specs.Refusal.{meshRefusal}
 use Rattle.locate.specs.Locate.{holds}
-use Rattle.cavity.specs.Answers.{Answers, sphere, handed, isYes, reportT, leastT}
+use Rattle.cavity.specs.Answers.{Answers, sphere, handed, saysYes, reportT, leastT}
 use Rattle.cavity.specs.Cavity.{cavityOf, correctedCavity, cavitySize}
 use Rattle.star.specs.Star.{madeCount, newCount, star}
 use Rattle.insertion.specs.declared.Report.{Report}
@@ -21,11 +21,11 @@ use Rattle.insertion.specs.declared.Inserted.the-variants.{Accepted, Ref
 
 -- the cavity of p before correction
 unfoldable pub firstCavity : Mesh → Tables → Position → Answers → List Bool
-firstCavity m t p a = cavityOf t (m .cells) p (isYes a t p)
+firstCavity m t p a = cavityOf t (m .cells) p (saysYes a t p)
 
 -- and after it
 unfoldable pub lastCavity : Mesh → Tables → Position → Answers → List Bool
-lastCavity m t p a = correctedCavity t (m .cells) p (isYes a t p)
+lastCavity m t p a = correctedCavity t (m .cells) p (saysYes a t p)
 
 -- 'cells made'
 unfoldable pub cellsMade : Mesh → Tables → Position → Answers → ℕ

@@ -1,4 +1,3 @@
 pub mod Insertion
 pub mod List
-pub mod Calls
 pub mod Inner

@@ -8,7 +8,7 @@ use lib.ListN.{length}
 use Rattle.geometry.specs.declared.Position.{Position}
 use Rattle.mesh.specs.declared.Mesh.{Mesh}
 use Rattle.mesh.specs.Tables.{Tables, cleared, pointIn}
-use Rattle.meshcheck.specs.Refusal.{meshRefusal}
+use Rattle.mesh.specs.Refusal.{meshRefusal}
 use Rattle.cavity.specs.Answers.{sphere}
 use Rattle.insertion.specs.declared.Inserted.the-variants.{Accepted, Refused}
 use Rattle.insertion.specs.declared.Listed.{Listed}
@@ -20,8 +20,8 @@ abbrev pub listedNode : List ℕ → ℕ → Position
 listedNode ns i = pointIn ns i
 
 -- 'One or two numbers after the last whole node are not read.'
-abbrev pub nodeCount : List ℕ → ℕ
-nodeCount ns = length ns / 3
+abbrev pub listedCount : List ℕ → ℕ
+listedCount ns = length ns / 3
 
 -- k nodes from place i on, after tests 1 to 3: 'at the first refused node it stops, and the answer gives that node's place in the
 -- list, from 0, and the number. Earlier nodes stay. A list that ends answers how many nodes went in.'
@@ -38,7 +38,7 @@ insertFrom (suc k) i m t w ns =
 unfoldable pub listCall : Mesh → Tables → ℕ → List ℕ → Result Listed
 listCall m t w ns =
     let r = meshRefusal m t w false in
-    cond (eqb r 0) (insertFrom (nodeCount ns) 0 m t w ns) record { answer = AllRefused r; tables = t }
+    cond (eqb r 0) (insertFrom (listedCount ns) 0 m t w ns) record { answer = AllRefused r; tables = t }
 
 -- what inserting the list ns answers and leaves in the tables t and the work area ws
 pub record ListLeaves (m : Mesh) (t : Tables) (ws ns : List ℕ) (r : Listed) (t′ : Tables) (ws′ : List ℕ) : Type 0 where

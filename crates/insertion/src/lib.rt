@@ -1,9 +1,6 @@
-// The insertion calls: one node by the float sphere test, one node by answers handed in, and a list of nodes.
+// Inserting nodes: refusals, report, record and tables. Definitions and laws: the code is in the crates insertion_*.
 
-pub mod inserting;
-pub mod nodes;
-pub mod single;
-
+use cavity::Extent;
 use mesh::Mesh;
 
 // Point number, cavity size before and after correction, cells made, and the least T over the cavity before correction.
@@ -27,4 +24,17 @@ pub enum Listed {
     Ended(Mesh, u32),
     Stopped(Mesh, u32, u8),
     Refused(u8),
+}
+
+// What tests 4 to 8 found: the refusal's number, 0 where there is none, the cavity's extent, and how many cells its star makes.
+pub struct Found {
+    pub refusal: u8,
+    pub extent: Extent,
+    pub made: usize,
+}
+
+// A node's answer, with its refusal's number beside it, 0 where there is none.
+pub struct Attempt {
+    pub refusal: u8,
+    pub inserted: Inserted,
 }

@@ -1,89 +1,105 @@
 -- From what the calls answer and leave to the text that is printed.
 use Prim.Native.Nat.{ℕ, _+_, _*_, _≤_, _<_}
+use mathlib.Core.Bool.{Bool, true, false, cond}
 use mathlib.Core.List.{List, [], _++_}
 use mathlib.Core.Path.{_≡_, refl, sym, ap, ap₂, _∙_, subst}
 use native.Mathlib.Omega.{arith}
+use native.Mathlib.Nat.{zero-add}
 use borrow.Author.Tests.{lt-ltb, le-ltb}
-use lib.ListN.{length, take, drop, length-take, length-replicate}
-use lib.Seq.{take-at}
-use Rattle.geometry.specs.declared.Position.{Position}
+use lib.Dec.{ltb}
+use lib.ListN.{length, take, drop, replicate, length-append, length-take, length-replicate}
+use lib.Seq.{take-at, length-take-le}
 use Rattle.mesh.specs.declared.Mesh.{Mesh}
 use Rattle.mesh.specs.declared.Started.{Started}
 use Rattle.mesh.specs.declared.Started.the-variants.{Accepted as StartAccepted, Refused as StartRefused}
-use Rattle.mesh.specs.Tables.{Tables, cellCapacity, corner, across}
-use Rattle.mesh.specs.Start.{over, StartLeaves}
-use Rattle.mesh.specs.Inner.{tables, Celled}
+use Rattle.mesh.specs.Tables.{Tables, cellCapacity, cleared, corner, across, tables}
+use Rattle.mesh.specs.Start.{over, startAnswer, startTables, StartLeaves}
+use Rattle.mesh.specs.Inner.{Celled}
 use Rattle.insertion.specs.declared.Listed.{Listed}
 use Rattle.insertion.specs.declared.Listed.the-variants.{Ended, Stopped, Refused as ListRefused}
-use Rattle.insertion.specs.List.{ListLeaves}
-use Rattle.insertion.specs.Calls.{meshOfList, acceptedNodes, Claim}
+use Rattle.insertion.specs.List.{listCall, ListLeaves}
+use Rattle.calls.specs.Calls.{recordAfterList}
 use Rattle.nodefile.specs.declared.Header.{Header}
 use Rattle.nodefile.specs.declared.Read.{Read}
 use Rattle.nodefile.specs.declared.Read.the-variants.{Nodes, Refused as ReadRefused}
+use Rattle.nodefile.specs.declared.Written.{Written}
+use Rattle.nodefile.specs.declared.Written.the-variants.{Bytes, Refused}
 use Rattle.nodefile.specs.Read.{header, nodes, readAnswer, ReadLeaves}
 use Rattle.nodefile.proofs.Answers.{Accepted}
 use Rattle.nodefile.proofs.RoundTrips.{read, nodes-read}
-use Rattle.roundtrip.proofs.StartedList.{built, claim-after-list, claimed-mesh}
-use Rattle.lines.specs.Listing.{cornerWords, neighbourWords, cellLine, meshText, refusedLine, stoppedLine, listText, nodesText, startText, boxText, readText, room, listing}
-use Rattle.lines.specs.Inner.{Wrote, FromStart, longest}
-use Rattle.lines.proofs.Putting.{fits-then}
-use Rattle.lines.proofs.Lengths.{mesh-fits, stopped-fits}
+use Rattle.roundtrip.proofs.StartedList.{claim-after-list, claimed-mesh}
+use Rattle.lines.specs.Listing.{cornerWords, neighbourWords, cellLine, meshText, refusedLine, stoppedLine, listText, nodesText, startText, boxText, readText, room, listing, listingAnswer, listingOutput, ListingLeaves}
+use Rattle.lines.specs.Inner.{put, Wrote, FromStart, cellsListed, longest}
+use Rattle.lines.proofs.Putting.{same-room, fits-then}
+use Rattle.lines.proofs.Lengths.{mesh-fits, stopped-fits, refused-fits, list-fits}
 
--- the text of a mesh does not name the points
-without-points : (m : Mesh) (ps cs ns : List ℕ) → meshText m (tables [] cs ns) ≡ meshText m (tables ps cs ns)
-unfolding meshText cellLine cornerWords neighbourWords corner across
-without-points m ps cs ns = refl
+-- ---- the answer of a list as text
 
-celled : {X Y Z : ℕ} {m : Mesh} {t : Tables} {ps : List Position} → Claim X Y Z (built m t) ps → Celled (t .corners) (m .cells) × Celled (t .neighbours) (m .cells)
-unfolding cellCapacity
-celled C =
-    let h = claimed-mesh C .cells≤ in
-    (record { cells-few = omega arith; cells-fit = omega arith }, record { cells-few = omega arith; cells-fit = omega arith })
+module _ (r : Listed) {cs bs : List ℕ} (C : Celled cs (cellsListed r)) (D : Celled bs (cellsListed r)) where
+  printable : (m : Mesh) {room : ℕ} → cellsListed r ≡ m .cells → longest ≤ room →
+      Celled cs (m .cells) × Celled bs (m .cells) × (length (meshText m (tables [] cs bs)) ≤ room)
+  printable m e h = (
+    subst (Celled cs) e C,
+    subst (Celled bs) e D,
+    omega (arith, mesh-fits m (tables [] cs bs) (omega (arith, C .cells-few, e))),
+  )
+
+  module _ {m : Mesh} {k : ℕ} (e : r ≡ Ended m k) where
+    pub ended-printable : {room : ℕ} → longest ≤ room → Celled cs (m .cells) × Celled bs (m .cells) × (length (meshText m (tables [] cs bs)) ≤ room)
+    unfolding cellsListed
+    ended-printable h = printable m (ap cellsListed e) h
+
+    pub ended-text : meshText m (tables [] cs bs) ≡ listText r (tables [] cs bs)
+    unfolding listText
+    ended-text = ap (λ r. listText r (tables [] cs bs)) (sym e)
+
+  module _ {m : Mesh} {place k : ℕ} (e : r ≡ Stopped m place k) where
+    pub stopped-printable : {room : ℕ} → longest ≤ room → Celled cs (m .cells) × Celled bs (m .cells) × (length (meshText m (tables [] cs bs)) ≤ room)
+    unfolding cellsListed
+    stopped-printable h = printable m (ap cellsListed e) h
+
+    -- the last line has its room
+    pub stopped-room : {out out′ : List ℕ} {next : ℕ} → longest ≤ length out → Wrote (meshText m (tables [] cs bs)) out 0 next out′ →
+        next + length (stoppedLine place k) ≤ length out′
+    unfolding cellsListed
+    stopped-room h W =
+        let q : cellsListed r ≡ m .cells = ap cellsListed e in
+        let l = stopped-fits m (tables [] cs bs) place k (omega (arith, C .cells-few, q)) in
+        fits-then W (stoppedLine place k) (omega arith)
+
+    pub stopped-text : meshText m (tables [] cs bs) ++ stoppedLine place k ≡ listText r (tables [] cs bs)
+    unfolding listText
+    stopped-text = ap (λ r. listText r (tables [] cs bs)) (sym e)
+
+pub refused-text : {r : Listed} (t : Tables) {k : ℕ} → r ≡ ListRefused k → refusedLine k ≡ listText r t
+unfolding listText
+refused-text t e = ap (λ r. listText r t) (sym e)
 
 -- ---- a list in a started box
 
+-- the text does not name the points
+without-points : (r : Listed) (ps cs ns : List ℕ) → listText r (tables [] cs ns) ≡ listText r (tables ps cs ns)
+unfolding listText meshText cellLine cornerWords neighbourWords corner across
+without-points (Ended m k) ps cs ns = refl
+without-points (Stopped m place k) ps cs ns = refl
+without-points (ListRefused k) ps cs ns = refl
+
+no-cells : (m : Mesh) (r : Listed) → cellsListed r ≤ recordAfterList m r .cells
+unfolding cellsListed recordAfterList
+no-cells m (Ended m′ k) = omega arith
+no-cells m (Stopped m′ place k) = omega arith
+no-cells m (ListRefused k) = omega arith
+
 module _ {m : Mesh} {t : Tables} (S : FromStart m t) {ws ns : List ℕ} {r : Listed} {ps cs bs ws′ : List ℕ} (L : ListLeaves m t ws ns r (tables ps cs bs) ws′) where
-  cells-of : {m′ : Mesh} → meshOfList m r ≡ m′ → Celled cs (m′ .cells) × Celled bs (m′ .cells)
-  cells-of e = celled (subst (λ m′. Claim (S .X) (S .Y) (S .Z) (built m′ (tables ps cs bs)) (acceptedNodes ns r)) e (claim-after-list (S .start) L))
+  pub listed-cells : Celled cs (cellsListed r) × Celled bs (cellsListed r)
+  unfolding cellCapacity
+  listed-cells =
+      let h = claimed-mesh (claim-after-list (S .start) L) .cells≤ in
+      let l = no-cells m r in
+      (record { cells-few = omega arith; cells-fit = omega arith }, record { cells-few = omega arith; cells-fit = omega arith })
 
-  printable : {m′ : Mesh} {room : ℕ} → meshOfList m r ≡ m′ → longest ≤ room →
-      Celled cs (m′ .cells) × Celled bs (m′ .cells) × (length (meshText m′ (tables [] cs bs)) ≤ room)
-  printable {m′} e h =
-      let c = cells-of e in
-      (c .0, c .1, omega (arith, mesh-fits m′ (tables [] cs bs) (c .0 .cells-few)))
-
-  text-is : {s : List ℕ} → s ≡ listText r (tables ps cs bs) → s ≡ nodesText m t (length ws) ns
-  text-is e = e ∙ ap₂ listText (L .answer) (L .tables)
-
-  module _ {m′ : Mesh} {k : ℕ} (e : r ≡ Ended m′ k) where
-    pub ended-printable : {room : ℕ} → longest ≤ room → Celled cs (m′ .cells) × Celled bs (m′ .cells) × (length (meshText m′ (tables [] cs bs)) ≤ room)
-    unfolding meshOfList
-    ended-printable h = printable (ap (meshOfList m) e) h
-
-    pub ended-text : meshText m′ (tables [] cs bs) ≡ nodesText m t (length ws) ns
-    unfolding listText
-    ended-text = text-is (without-points m′ ps cs bs ∙ ap (λ r. listText r (tables ps cs bs)) (sym e))
-
-  module _ {m′ : Mesh} {place k : ℕ} (e : r ≡ Stopped m′ place k) where
-    pub stopped-printable : {room : ℕ} → longest ≤ room → Celled cs (m′ .cells) × Celled bs (m′ .cells) × (length (meshText m′ (tables [] cs bs)) ≤ room)
-    unfolding meshOfList
-    stopped-printable h = printable (ap (meshOfList m) e) h
-
-    -- the last line has its room
-    pub stopped-room : {out out′ : List ℕ} {next : ℕ} → longest ≤ length out → Wrote (meshText m′ (tables [] cs bs)) out 0 next out′ →
-        next + length (stoppedLine place k) ≤ length out′
-    unfolding meshOfList
-    stopped-room h W =
-        let l = stopped-fits m′ (tables [] cs bs) place k (cells-of (ap (meshOfList m) e) .0 .cells-few) in
-        fits-then W (stoppedLine place k) (omega arith)
-
-    pub stopped-text : meshText m′ (tables [] cs bs) ++ stoppedLine place k ≡ nodesText m t (length ws) ns
-    unfolding listText
-    stopped-text = text-is (ap (λ s. s ++ stoppedLine place k) (without-points m′ ps cs bs) ∙ ap (λ r. listText r (tables ps cs bs)) (sym e))
-
-  pub list-refused-text : {k : ℕ} → r ≡ ListRefused k → refusedLine k ≡ nodesText m t (length ws) ns
-  unfolding listText
-  list-refused-text e = text-is (ap (λ r. listText r (tables ps cs bs)) (sym e))
+  pub listed-text : listText r (tables [] cs bs) ≡ nodesText m t (length ws) ns
+  listed-text = without-points r ps cs bs ∙ ap₂ listText (L .answer) (L .tables)
 
 -- ---- a start
 
@@ -145,3 +161,79 @@ module _ (file : List ℕ) where
   pub within-limit : length file ≤ 65536 → {t : Tables} {a b : ℕ} → t ≡ room → a ≡ 3048 → b ≡ 12288 → readText (readAnswer file a) t b (nodes file) ≡ listing file
   unfolding listing
   within-limit h e f g = rw (le-ltb 65536 (length file) h, e, f, g)
+
+-- ---- no listing is longer than `longest`
+
+nodes-fit : {m : Mesh} {t : Tables} → FromStart m t → (w : ℕ) (ns : List ℕ) → length (nodesText m t w ns) ≤ longest
+nodes-fit {m} {t} S w ns =
+    let ws : List ℕ = replicate w 0 in
+    let r = listCall m t (length ws) ns in
+    let L : ListLeaves m t ws ns (r .answer) (r .tables) (cleared ws) = record { answer = refl; tables = refl; work = refl } in
+    let h = list-fits (r .answer) (r .tables) (listed-cells S L .0 .cells-few) in
+    subst (λ w. length (nodesText m t w ns) ≤ longest) (length-replicate w 0) h
+
+start-fits : (X Y Z : ℕ) (t : Tables) (w : ℕ) (ns : List ℕ) → length (boxText X Y Z t w ns) ≤ longest
+unfolding startText
+start-fits X Y Z t w ns = subst (λ w. length (boxText X Y Z t w ns) ≤ longest) (length-replicate w 0) (go (startAnswer X Y Z t (length ws)) refl)
+  where
+    ws : List ℕ
+    ws = replicate w 0
+
+    t′ : Tables
+    t′ = startTables X Y Z t (length ws)
+
+    go : (r : Started) → r ≡ startAnswer X Y Z t (length ws) → length (startText r t′ (length ws) ns) ≤ longest
+    go (StartAccepted m) e = nodes-fit record { X = X; Y = Y; Z = Z; before = t; work = ws; work′ = cleared ws; start = record { answer = e; tables = refl; work = refl } } (length ws) ns
+    go (StartRefused k) e = refused-fits k
+
+pub listing-fits : (file : List ℕ) → length (listing file) ≤ longest
+unfolding listing readText
+listing-fits file = go (ltb 65536 (length file)) (readAnswer file 3048)
+  where
+    read-fits : (r : Read) → length (readText r room 12288 (nodes file)) ≤ longest
+    read-fits (Nodes h) = start-fits (h .x) (h .y) (h .z) room 12288 (nodes file)
+    read-fits (ReadRefused k) = refused-fits k
+
+    go : (b : Bool) (r : Read) → length (cond b (refusedLine 9) (readText r room 12288 (nodes file))) ≤ longest
+    go true r = refused-fits 9
+    go false r = read-fits r
+
+-- ---- the listing, copied to the output
+
+module _ (file : List ℕ) {text text′ : List ℕ} {n : ℕ} (T : Wrote (listing file) text 0 n text′) where
+  pub listing-length : n ≡ length (listing file)
+  listing-length = omega (arith, T .next-is)
+
+  pub listing-within : n ≤ length text′
+  listing-within = omega (arith, T .next-is, T .within, same-room T)
+
+  pub text-length : n ≡ length (take n text′)
+  text-length = sym (length-take-le n text′ listing-within)
+
+  -- what was written from the front on stands there
+  text-is : take n text′ ≡ listing file
+  unfolding put
+  text-is = ap (take n) (T .output) ∙ take-at (listing file) (drop (0 + length (listing file)) text) n (sym listing-length)
+
+  pub too-short : (out : List ℕ) → length out < n → ListingLeaves file out (Refused 10) out
+  unfolding listingAnswer listingOutput
+  too-short out h =
+      let e = lt-ltb (length out) (length (listing file)) (omega (arith, listing-length)) in
+      record { answer = rw e; output = rw e }
+
+  pub long-enough : (out : List ℕ) → n ≤ length out → {out′ : List ℕ} {r : ℕ} → Wrote (take n text′) out 0 r out′ → ListingLeaves file out (Bytes n) out′
+  unfolding listingAnswer listingOutput put
+  long-enough out h W =
+      let e = le-ltb (length out) (length (listing file)) (omega (arith, listing-length)) in
+      record { answer = rw e (ap Bytes listing-length); output = rw e (W .output ∙ (ap (λ s. s ++ drop (0 + length s) out) text-is ∙ ap (λ k. listing file ++ drop k out) (zero-add (length (listing file))))) }
+
+-- what was written lies within the output
+pub bytes-within : {file out out′ : List ℕ} {r : Written} {n : ℕ} → ListingLeaves file out r out′ → r ≡ Bytes n → n ≤ length out′
+unfolding listingAnswer listingOutput
+bytes-within {file} {out} {out′} {r} {n} L e = go (ltb (length out) (length (listing file))) (sym e ∙ L .answer) (L .output)
+  where
+    go : (b : Bool) → Bytes n ≡ cond b (Refused 10) (Bytes (length (listing file))) → out′ ≡ cond b out (over (listing file) out) → n ≤ length out′
+    go true a o = let z : _≡_ {A = ℕ} 0 1 = cc in absurd (omega arith)
+    go false a o =
+        let q : n ≡ length (listing file) = cc in
+        omega (arith, q, ap length o, length-append (listing file) (drop (length (listing file)) out))

@@ -7,18 +7,20 @@ use lib.Dec.{eqb, ltb}
 use lib.ListN.{length, length-append}
 use Rattle.mesh.specs.declared.Mesh.{Mesh}
 use Rattle.mesh.specs.Tables.{Tables, none, corner, across}
-use Rattle.lines.specs.Text.{joined, digit, decimal, space}
-use Rattle.lines.specs.Listing.{boxLine, neighbourWord, cornerWords, neighbourWords, cellLine, meshText, stoppedLine}
-use Rattle.lines.specs.Inner.{longest}
+use Rattle.insertion.specs.declared.Listed.{Listed}
+use Rattle.insertion.specs.declared.Listed.the-variants.{Ended, Stopped, Refused}
+use Rattle.lines.specs.Text.{concatBelow, digit, decimal, space}
+use Rattle.lines.specs.Listing.{boxLine, neighbourWord, cornerWords, neighbourWords, cellLine, meshText, refusedLine, stoppedLine, listText}
+use Rattle.lines.specs.Inner.{cellsListed, longest}
 
 either : (b : Bool) (x y : List ℕ) (k : ℕ) → length x ≤ k → length y ≤ k → length (cond b x y) ≤ k
 either true x y k h l = h
 either false x y k h l = l
 
-joined-at-most : (f : ℕ → List ℕ) (k : ℕ) → ((i : ℕ) → length (f i) ≤ k) → (n : ℕ) → length (joined n f) ≤ n * k
-unfolding joined
-joined-at-most f k h zero = omega arith
-joined-at-most f k h (suc n) = omega (arith, joined-at-most f k h n, h n, length-append (joined n f) (f n))
+concat-at-most : (f : ℕ → List ℕ) (k : ℕ) → ((i : ℕ) → length (f i) ≤ k) → (n : ℕ) → length (concatBelow n f) ≤ n * k
+unfolding concatBelow
+concat-at-most f k h zero = omega arith
+concat-at-most f k h (suc n) = omega (arith, concat-at-most f k h n, h n, length-append (concatBelow n f) (f n))
 
 digit-at-most : (k p : ℕ) → length (digit k p) ≤ 1
 unfolding digit
@@ -26,7 +28,7 @@ digit-at-most k p = either (eqb p 0 || ltb 0 (k / 10 ^ p)) _ [] 1 (omega arith) 
 
 pub decimal-at-most : (k : ℕ) → length (decimal k) ≤ 10
 unfolding decimal
-decimal-at-most k = omega (arith, joined-at-most (λ i. digit k (9 - i)) 1 (λ i. digit-at-most k (9 - i)) 10)
+decimal-at-most k = omega (arith, concat-at-most (λ i. digit k (9 - i)) 1 (λ i. digit-at-most k (9 - i)) 10)
 
 neighbour-at-most : (v : ℕ) → length (neighbourWord v) ≤ 11
 unfolding neighbourWord
@@ -35,8 +37,8 @@ neighbour-at-most v = either (eqb v none) _ (space ++ decimal v) 11 (omega arith
 cell-at-most : (t : Tables) (c : ℕ) → length (cellLine t c) ≤ 99
 unfolding cellLine cornerWords neighbourWords
 cell-at-most t c =
-    let a = joined-at-most (λ i. space ++ decimal (corner t c i)) 11 (λ i. omega (arith, decimal-at-most (corner t c i))) 4 in
-    let b = joined-at-most (λ i. neighbourWord (across t (4 * c + i))) 11 (λ i. neighbour-at-most (across t (4 * c + i))) 4 in
+    let a = concat-at-most (λ i. space ++ decimal (corner t c i)) 11 (λ i. omega (arith, decimal-at-most (corner t c i))) 4 in
+    let b = concat-at-most (λ i. neighbourWord (across t (4 * c + i))) 11 (λ i. neighbour-at-most (across t (4 * c + i))) 4 in
     simp length-append (omega (arith, decimal-at-most c))
 
 box-at-most : (m : Mesh) → length (boxLine m) ≤ 72
@@ -51,7 +53,17 @@ stopped-at-most place e = simp length-append (omega (arith, decimal-at-most plac
 
 pub mesh-fits : (m : Mesh) (t : Tables) → m .cells ≤ 4096 → length (meshText m t) + 30 ≤ longest
 unfolding meshText
-mesh-fits m t h = omega (arith, length-append (boxLine m) (joined (m .cells) (cellLine t)), box-at-most m, joined-at-most (cellLine t) 99 (cell-at-most t) (m .cells))
+mesh-fits m t h = omega (arith, length-append (boxLine m) (concatBelow (m .cells) (cellLine t)), box-at-most m, concat-at-most (cellLine t) 99 (cell-at-most t) (m .cells))
 
 pub stopped-fits : (m : Mesh) (t : Tables) (place e : ℕ) → m .cells ≤ 4096 → length (meshText m t ++ stoppedLine place e) ≤ longest
 stopped-fits m t place e h = omega (arith, length-append (meshText m t) (stoppedLine place e), mesh-fits m t h, stopped-at-most place e)
+
+pub refused-fits : (e : ℕ) → length (refusedLine e) ≤ longest
+unfolding refusedLine
+refused-fits e = simp length-append (omega (arith, decimal-at-most e))
+
+pub list-fits : (r : Listed) (t : Tables) → cellsListed r ≤ 4096 → length (listText r t) ≤ longest
+unfolding listText cellsListed
+list-fits (Ended m k) t h = omega (arith, mesh-fits m t h)
+list-fits (Stopped m place e) t h = stopped-fits m t place e h
+list-fits (Refused e) t h = refused-fits e

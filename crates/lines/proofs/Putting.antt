@@ -10,7 +10,7 @@ use native.Mathlib.Nat.{add-zero}
 use lib.Dec.{eqb, ltb}
 use lib.ListN.{length, set, take, drop, length-append, length-take, length-drop, take-append-drop}
 use lib.Seq.{take-at, drop-at, drop-drop, set-split, length-take-le, take-length, paste}
-use Rattle.lines.specs.Text.{joined, digit}
+use Rattle.lines.specs.Text.{concatBelow, digit}
 use Rattle.lines.specs.Inner.{put, Wrote}
 
 module _ {s out out′ : List ℕ} {at r : ℕ} (W : Wrote s out at r out′) where
@@ -78,52 +78,52 @@ wrote-copy out s at h e =
       next-is = refl;
     }
 
--- ---- joined texts
+-- ---- concatBelow texts
 
 module _ (f : ℕ → List ℕ) where
-  pub joined-more : (i : ℕ) → joined (i + 1) f ≡ joined i f ++ f i
-  unfolding joined
-  joined-more i = ap (λ n. joined n f) (add-one i)
+  pub concat-more : (i : ℕ) → concatBelow (i + 1) f ≡ concatBelow i f ++ f i
+  unfolding concatBelow
+  concat-more i = ap (λ n. concatBelow n f) (add-one i)
 
-  pub joined-fits : (n i : ℕ) → i < n → length (joined i f ++ f i) ≤ length (joined n f)
-  unfolding joined
-  joined-fits zero i h = absurd (omega arith)
-  joined-fits (suc n) i h = go (ℕ-discrete i n) (λ l. joined-fits n i l)
+  pub concat-fits : (n i : ℕ) → i < n → length (concatBelow i f ++ f i) ≤ length (concatBelow n f)
+  unfolding concatBelow
+  concat-fits zero i h = absurd (omega arith)
+  concat-fits (suc n) i h = go (ℕ-discrete i n) (λ l. concat-fits n i l)
     where
-      go : Dec (i ≡ n) → (i < n → length (joined i f ++ f i) ≤ length (joined n f)) → length (joined i f ++ f i) ≤ length (joined (suc n) f)
-      go (yes e) r = unfold joined in subst (λ k. length (joined i f ++ f i) ≤ length (joined k f ++ f k)) e (omega arith)
-      go (no d) r = unfold joined in omega (arith, r (omega arith), length-append (joined n f) (f n))
+      go : Dec (i ≡ n) → (i < n → length (concatBelow i f ++ f i) ≤ length (concatBelow n f)) → length (concatBelow i f ++ f i) ≤ length (concatBelow (suc n) f)
+      go (yes e) r = unfold concatBelow in subst (λ k. length (concatBelow i f ++ f i) ≤ length (concatBelow k f ++ f k)) e (omega arith)
+      go (no d) r = unfold concatBelow in omega (arith, r (omega arith), length-append (concatBelow n f) (f n))
 
 -- i of n texts are written
-pub record Joining (f : ℕ → List ℕ) (n : ℕ) (out : List ℕ) (at i r : ℕ) (out′ : List ℕ) : Type 0 where
-  pub room : at + length (joined n f) ≤ length out
+pub record Concatenating (f : ℕ → List ℕ) (n : ℕ) (out : List ℕ) (at i r : ℕ) (out′ : List ℕ) : Type 0 where
+  pub room : at + length (concatBelow n f) ≤ length out
   pub i≤ : i ≤ n
-  pub wrote : Wrote (joined i f) out at r out′
+  pub wrote : Wrote (concatBelow i f) out at r out′
 
-pub none-joined : (f : ℕ → List ℕ) (n : ℕ) (out : List ℕ) (at : ℕ) → at + length (joined n f) ≤ length out → Joining f n out at 0 at out
-unfolding joined
-none-joined f n out at h = record { room = h; i≤ = omega arith; wrote = wrote-none out at (omega arith) }
+pub none-written : (f : ℕ → List ℕ) (n : ℕ) (out : List ℕ) (at : ℕ) → at + length (concatBelow n f) ≤ length out → Concatenating f n out at 0 at out
+unfolding concatBelow
+none-written f n out at h = record { room = h; i≤ = omega arith; wrote = wrote-none out at (omega arith) }
 
-module _ {f : ℕ → List ℕ} {n : ℕ} {out : List ℕ} {at i r : ℕ} {out′ : List ℕ} (J : Joining f n out at i r out′) where
-  one-fits : i < n → at + length (joined i f ++ f i) ≤ length out
-  one-fits h = omega (arith, J .room, joined-fits f n i h)
+module _ {f : ℕ → List ℕ} {n : ℕ} {out : List ℕ} {at i r : ℕ} {out′ : List ℕ} (J : Concatenating f n out at i r out′) where
+  one-fits : i < n → at + length (concatBelow i f ++ f i) ≤ length out
+  one-fits h = omega (arith, J .room, concat-fits f n i h)
 
   pub next-fits : i < n → r + length (f i) ≤ length out′
   next-fits h = fits-then (J .wrote) (f i) (one-fits h)
 
-  pub joined-long : length out′ ≡ length out
-  joined-long = same-room (J .wrote)
+  pub written-long : length out′ ≡ length out
+  written-long = same-room (J .wrote)
 
-  pub one-joined : i < n → {r′ : ℕ} {out″ : List ℕ} → Wrote (f i) out′ r r′ out″ → Joining f n out at (i + 1) r′ out″
-  one-joined h {r′} {out″} W =
+  pub one-written : i < n → {r′ : ℕ} {out″ : List ℕ} → Wrote (f i) out′ r r′ out″ → Concatenating f n out at (i + 1) r′ out″
+  one-written h {r′} {out″} W =
       record {
         room = J .room;
         i≤ = omega arith;
-        wrote = subst (λ l. Wrote l out at r′ out″) (sym (joined-more f i)) (then (J .wrote) W);
+        wrote = subst (λ l. Wrote l out at r′ out″) (sym (concat-more f i)) (then (J .wrote) W);
       }
 
-  pub all-joined : n ≤ i → Wrote (joined n f) out at r out′
-  all-joined h = let e : i ≡ n = omega (arith, J .i≤) in subst (λ k. Wrote (joined k f) out at r out′) e (J .wrote)
+  pub all-written : n ≤ i → Wrote (concatBelow n f) out at r out′
+  all-written h = let e : i ≡ n = omega (arith, J .i≤) in subst (λ k. Wrote (concatBelow k f) out at r out′) e (J .wrote)
 
 -- ---- a digit, with q for 10 ^ p and b for the test
 

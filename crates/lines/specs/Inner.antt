@@ -7,6 +7,8 @@ use Rattle.mesh.specs.declared.Mesh.{Mesh}
 use Rattle.mesh.specs.declared.Started.the-variants.{Accepted}
 use Rattle.mesh.specs.Tables.{Tables}
 use Rattle.mesh.specs.Start.{StartLeaves}
+use Rattle.insertion.specs.declared.Listed.{Listed}
+use Rattle.insertion.specs.declared.Listed.the-variants.{Ended, Stopped, Refused}
 
 -- out with the text s from place at on
 unfoldable pub put : List ℕ → ℕ → List ℕ → List ℕ
@@ -27,6 +29,12 @@ pub record FromStart (m : Mesh) (t : Tables) : Type 0 where
   pub work : List ℕ
   pub work′ : List ℕ
   pub start : StartLeaves X Y Z before work (Accepted m) t work′
+
+-- the cells that the text of a list's answer names
+unfoldable pub cellsListed : Listed → ℕ
+cellsListed (Ended m k) = m .cells
+cellsListed (Stopped m place e) = m .cells
+cellsListed (Refused e) = 0
 
 -- as many bytes as a listing can take: 100 a line
 abbrev pub longest : ℕ

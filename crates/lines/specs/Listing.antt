@@ -2,20 +2,23 @@
 use Prim.Native.Nat.{ℕ, _+_, _*_}
 use mathlib.Core.Bool.{cond}
 use mathlib.Core.List.{List, _∷_, _++_, []}
+use mathlib.Core.Path.{_≡_}
 use lib.Dec.{ltb, eqb}
 use lib.ListN.{length, replicate}
 use Rattle.mesh.specs.declared.Mesh.{Mesh}
 use Rattle.mesh.specs.declared.Started.{Started}
 use Rattle.mesh.specs.declared.Started.the-variants.{Accepted, Refused as StartRefused}
 use Rattle.mesh.specs.Tables.{Tables, none, corner, across}
-use Rattle.mesh.specs.Start.{startAnswer, startTables}
+use Rattle.mesh.specs.Start.{over, startAnswer, startTables}
 use Rattle.insertion.specs.declared.Listed.{Listed}
 use Rattle.insertion.specs.declared.Listed.the-variants.{Ended, Stopped, Refused as ListRefused}
 use Rattle.insertion.specs.List.{listCall}
 use Rattle.nodefile.specs.declared.Read.{Read}
 use Rattle.nodefile.specs.declared.Read.the-variants.{Nodes, Refused as ReadRefused}
+use Rattle.nodefile.specs.declared.Written.{Written}
+use Rattle.nodefile.specs.declared.Written.the-variants.{Bytes, Refused}
 use Rattle.nodefile.specs.Read.{nodes, readAnswer}
-use Rattle.lines.specs.Text.{joined, decimal, space, lineEnd}
+use Rattle.lines.specs.Text.{concatBelow, decimal, space, lineEnd}
 
 -- 'box ', ' points ', ' cells ', 'refused ', 'stopped '
 abbrev pub box-word : List ℕ
@@ -44,17 +47,17 @@ unfoldable pub neighbourWord : ℕ → List ℕ
 neighbourWord v = cond (eqb v none) (32 ∷ 45 ∷ []) (space ++ decimal v)
 
 unfoldable pub cornerWords : Tables → ℕ → List ℕ
-cornerWords t c = joined 4 (λ i. space ++ decimal (corner t c i))
+cornerWords t c = concatBelow 4 (λ i. space ++ decimal (corner t c i))
 
 unfoldable pub neighbourWords : Tables → ℕ → List ℕ
-neighbourWords t c = joined 4 (λ i. neighbourWord (across t (4 * c + i)))
+neighbourWords t c = concatBelow 4 (λ i. neighbourWord (across t (4 * c + i)))
 
 -- 'then a line a cell: number, corners, neighbours'
 unfoldable pub cellLine : Tables → ℕ → List ℕ
 cellLine t c = decimal c ++ cornerWords t c ++ neighbourWords t c ++ lineEnd
 
 unfoldable pub meshText : Mesh → Tables → List ℕ
-meshText m t = boxLine m ++ joined (m .cells) (cellLine t)
+meshText m t = boxLine m ++ concatBelow (m .cells) (cellLine t)
 
 -- 'A refused file or box prints only refused and the number.'
 unfoldable pub refusedLine : ℕ → List ℕ
@@ -92,3 +95,16 @@ room = record { points = replicate 3072 0; corners = replicate 16384 0; neighbou
 -- 'in the listing program also input over 65,536 bytes'; a file has at most 1,016 nodes, three numbers each
 unfoldable pub listing : List ℕ → List ℕ
 listing file = cond (ltb 65536 (length file)) (refusedLine 9) (readText (readAnswer file 3048) room 12288 (nodes file))
+
+-- the number of bytes, or 10 where the output is too short
+unfoldable pub listingAnswer : List ℕ → ℕ → Written
+listingAnswer file room = cond (ltb room (length (listing file))) (Refused 10) (Bytes (length (listing file)))
+
+-- 'Output past what is written is unchanged.'
+unfoldable pub listingOutput : List ℕ → List ℕ → List ℕ
+listingOutput file out = cond (ltb (length out) (length (listing file))) out (over (listing file) out)
+
+-- what listing a file answers and leaves in out
+pub record ListingLeaves (file out : List ℕ) (r : Written) (out′ : List ℕ) : Type 0 where
+  pub answer : r ≡ listingAnswer file (length out)
+  pub output : out′ ≡ listingOutput file out

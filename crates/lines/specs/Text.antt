@@ -5,9 +5,9 @@ use mathlib.Core.List.{List, _∷_, _++_, []}
 use lib.Dec.{ltb, eqb}
 
 -- f 0, f 1, .., n of them, one after another
-unfoldable pub joined : ℕ → (ℕ → List ℕ) → List ℕ
-joined zero f = []
-joined (suc n) f = joined n f ++ f n
+unfoldable pub concatBelow : ℕ → (ℕ → List ℕ) → List ℕ
+concatBelow zero f = []
+concatBelow (suc n) f = concatBelow n f ++ f n
 
 -- digit p of k, which counts 10 ^ p; none before the first digit of k
 unfoldable pub digit : ℕ → ℕ → List ℕ
@@ -15,7 +15,7 @@ digit k p = cond (eqb p 0 || ltb 0 (k / 10 ^ p)) ((48 + k / 10 ^ p % 10) ∷ [])
 
 -- a number below 10 ^ 10 in base ten
 unfoldable pub decimal : ℕ → List ℕ
-decimal k = joined 10 (λ i. digit k (9 - i))
+decimal k = concatBelow 10 (λ i. digit k (9 - i))
 
 abbrev pub space : List ℕ
 space = 32 ∷ []

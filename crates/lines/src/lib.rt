@@ -1,5 +1,1 @@
-// The listing of a node file, as text: what the program `listing` prints.
-
-pub mod cells;
-pub mod listing;
-pub mod numbers;
+// The listing of a node file, as text: what the program `listing` prints. Definitions and laws: the code is in the crates lines_*.

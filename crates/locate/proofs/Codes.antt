@@ -10,13 +10,11 @@ use borrow.Author.Tests.{ltb-true, eqb-true, lt-ltb, eq-eqb, ne-eqb}
 use lib.Dec.{ltb, eqb}
 use lib.Bits.{bitAnd, and-shr, and-mod, and-le-l}
 use lib.ListN.{length, getD, set}
-use lib.IntN.{ℤ, pos, _*ℤ_}
+use lib.IntN.{pos, _*ℤ_}
 use lib.Signed.{_<ℤ_, _≤ℤ_, leZ, ltZ}
-use mir.Syntax.{w64}
 use mir.Val.{boolByte}
 use Rattle.arith.specs.Table.{tabulate, allBelow, anyBelow, sum}
 use Rattle.arith.proofs.Flags.{split, fails, bool-ext, or-cases, below-four, below-six}
-use Rattle.arith.proofs.Machine.{back}
 use Rattle.arith.proofs.Order.{arithℤ, total, leZ-true, ltZ-yes-leZ, ltZ-no-leZ, ≤-<-trans, <-irrefl, *-mono-≤-l, *-mono-<-l}
 use Rattle.arith.proofs.Sums.{sum-mono, sum-times}
 use Rattle.arith.proofs.Tables.{tabulate-at, tabulate-length, set-tabulate, all-cong, all-at, any-found, Found, find}
@@ -25,14 +23,15 @@ use Rattle.geometry.specs.declared.Volumes.{Volumes}
 use Rattle.geometry.specs.Volume.{InRange, volume, replaced}
 use Rattle.geometry.specs.Inner.{volumesAt}
 use Rattle.geometry.proofs.Algebra.{volume-cong, volume-split}
-use Rattle.geometry.proofs.Promises.{held-volume}
-use Rattle.mesh.specs.Tables.{Tables, pointIn, cornerAt, side}
+use Rattle.geometry.proofs.ReadBack.{held-volume}
+use Rattle.mesh.specs.Tables.{Tables, pointIn, cornerAt, side, tables}
 use Rattle.mesh.specs.Mesh.{Wall, low-x, low-y, low-z, along}
-use Rattle.mesh.specs.Inner.{tables, fourAt, Solid}
+use Rattle.mesh.specs.Inner.{fourAt, positionsOf, Cornered, Solid}
+use Rattle.mesh.proofs.Corners.{placed-cornered}
 use Rattle.mesh.proofs.FaceNumbers.{face-cell, face-opposite}
 use Rattle.mesh.proofs.Numbers.{byte≤, four-entry, four-corner, four-volume}
 use Rattle.mesh.proofs.Held.{cramer}
-use Rattle.locate.specs.Inner.{axisCode, sideCode, sideCodes, sharedBits, holdsFour, Testable, Coded}
+use Rattle.locate.specs.Inner.{axisCode, sideCode, sideCodes, sharedBits, volumeAt, noneNegative, holdsFour, Coded}
 use Rattle.locate.specs.Locate.{holds}
 
 -- ---- a cell that holds q has q in its bounding box
@@ -194,47 +193,46 @@ apart ps codes k q C d = fails (holdsFour ps k q) (λ e. d (none-shared e))
 
 -- ---- the four volumes as the code holds them
 
-abbrev pub volumeAt : Volumes → ℕ → ℤ
-volumeAt v i = cond (eqb i 0) (v .v0) (cond (eqb i 1) (v .v1) (cond (eqb i 2) (v .v2) (v .v3)))
-
 module _ (ps k : List ℕ) (q : Position) where
   abbrev s : ℕ → Position
   s i = pointIn ps (getD k i 0)
 
-  pub measured : {v : Volumes} {a b c d : Position} → a ≡ s 0 → b ≡ s 1 → c ≡ s 2 → d ≡ s 3 → v ≡ volumesAt a b c d q →
-      ((i : ℕ) → i < 4 → InRange (s i)) → InRange q → (i : ℕ) → i < 4 → back w64 (volumeAt v i) ≡ volume (replaced s i q)
+  pub measured : {v : Volumes} → v ≡ volumesAt (positionsOf ps k) q → Cornered ps k → InRange q → (i : ℕ) → i < 4 → volumeAt v i ≡ volume (replaced s i q)
   unfolding volumesAt volume
-  measured {v} ea eb ec ed e h hq =
-      let w : v ≡ volumesAt (s 0) (s 1) (s 2) (s 3) q = e ∙ (λ i. volumesAt (ea i) (eb i) (ec i) (ed i) q) in
-      let h₀ = h 0 (omega arith) in
-      let h₁ = h 1 (omega arith) in
-      let h₂ = h 2 (omega arith) in
-      let h₃ = h 3 (omega arith) in
-      below-four (λ i. back w64 (volumeAt v i) ≡ volume (replaced s i q))
-      (held-volume q (s 1) (s 2) (s 3) (ap (λ u. u .v0) w) hq h₁ h₂ h₃ .is)
-      (held-volume (s 0) q (s 2) (s 3) (ap (λ u. u .v1) w) h₀ hq h₂ h₃ .is)
-      (held-volume (s 0) (s 1) q (s 3) (ap (λ u. u .v2) w) h₀ h₁ hq h₃ .is)
-      (held-volume (s 0) (s 1) (s 2) q (ap (λ u. u .v3) w) h₀ h₁ h₂ hq .is)
+  measured {v} e h hq =
+      let h₀ = h .in-range 0 (omega arith) in
+      let h₁ = h .in-range 1 (omega arith) in
+      let h₂ = h .in-range 2 (omega arith) in
+      let h₃ = h .in-range 3 (omega arith) in
+      below-four (λ i. volumeAt v i ≡ volume (replaced s i q))
+      (held-volume q (s 1) (s 2) (s 3) (ap (λ u. u .v0) e) hq h₁ h₂ h₃ .is)
+      (held-volume (s 0) q (s 2) (s 3) (ap (λ u. u .v1) e) h₀ hq h₂ h₃ .is)
+      (held-volume (s 0) (s 1) q (s 3) (ap (λ u. u .v2) e) h₀ h₁ hq h₃ .is)
+      (held-volume (s 0) (s 1) (s 2) q (ap (λ u. u .v3) e) h₀ h₁ h₂ hq .is)
 
-  -- the tests as they are made, from the last volume to the first
-  module _ (z : ℕ → ℤ) (is : (i : ℕ) → i < 4 → z i ≡ volume (replaced s i q)) where
-    tests : holdsFour ps k q ≡ (leZ (pos 0) (z 3) && (leZ (pos 0) (z 2) && (leZ (pos 0) (z 1) && leZ (pos 0) (z 0))))
-    unfolding holdsFour allBelow
-    tests =
-        rw and-true
-        (sym (λ i. leZ (pos 0) (is 3 (omega arith) i) && (leZ (pos 0) (is 2 (omega arith) i) && (leZ (pos 0) (is 1 (omega arith) i) && leZ (pos 0) (is 0 (omega arith) i)))))
+  pub none-negative-is : {v : Volumes} → v ≡ volumesAt (positionsOf ps k) q → Cornered ps k → InRange q → noneNegative v ≡ holdsFour ps k q
+  unfolding noneNegative holdsFour
+  none-negative-is {v} e h hq =
+      all-cong 4 (λ i. leZ (pos 0) (volumeAt v i)) (λ i. leZ (pos 0) (volume (replaced s i q))) (λ i l. ap (leZ (pos 0)) (measured e h hq i l))
 
-    pub fourth-fails : ltZ (z 3) (pos 0) ≡ true → false ≡ holdsFour ps k q
-    fourth-fails a = sym (tests ∙ rw (ltZ-yes-leZ (pos 0) (z 3) a))
+-- the tests as they are made, from the last volume to the first
+module _ (v : Volumes) where
+  tests : noneNegative v ≡ (leZ (pos 0) (volumeAt v 3) && (leZ (pos 0) (volumeAt v 2) && (leZ (pos 0) (volumeAt v 1) && leZ (pos 0) (volumeAt v 0))))
+  unfolding noneNegative allBelow
+  tests = rw and-true
 
-    pub third-fails : ltZ (z 3) (pos 0) ≡ false → ltZ (z 2) (pos 0) ≡ true → false ≡ holdsFour ps k q
-    third-fails a b = sym (tests ∙ rw (ltZ-no-leZ (pos 0) (z 3) a, ltZ-yes-leZ (pos 0) (z 2) b))
+  pub fourth-fails : ltZ (volumeAt v 3) (pos 0) ≡ true → false ≡ noneNegative v
+  fourth-fails a = sym (tests ∙ rw (ltZ-yes-leZ (pos 0) (volumeAt v 3) a))
 
-    pub second-fails : ltZ (z 3) (pos 0) ≡ false → ltZ (z 2) (pos 0) ≡ false → ltZ (z 1) (pos 0) ≡ true → false ≡ holdsFour ps k q
-    second-fails a b c = sym (tests ∙ rw (ltZ-no-leZ (pos 0) (z 3) a, ltZ-no-leZ (pos 0) (z 2) b, ltZ-yes-leZ (pos 0) (z 1) c))
+  pub third-fails : ltZ (volumeAt v 3) (pos 0) ≡ false → ltZ (volumeAt v 2) (pos 0) ≡ true → false ≡ noneNegative v
+  third-fails a b = sym (tests ∙ rw (ltZ-no-leZ (pos 0) (volumeAt v 3) a, ltZ-yes-leZ (pos 0) (volumeAt v 2) b))
 
-    pub first-decides : ltZ (z 3) (pos 0) ≡ false → ltZ (z 2) (pos 0) ≡ false → ltZ (z 1) (pos 0) ≡ false → leZ (pos 0) (z 0) ≡ holdsFour ps k q
-    first-decides a b c = sym (tests ∙ rw (ltZ-no-leZ (pos 0) (z 3) a, ltZ-no-leZ (pos 0) (z 2) b, ltZ-no-leZ (pos 0) (z 1) c))
+  pub second-fails : ltZ (volumeAt v 3) (pos 0) ≡ false → ltZ (volumeAt v 2) (pos 0) ≡ false → ltZ (volumeAt v 1) (pos 0) ≡ true → false ≡ noneNegative v
+  second-fails a b c = sym (tests ∙ rw (ltZ-no-leZ (pos 0) (volumeAt v 3) a, ltZ-no-leZ (pos 0) (volumeAt v 2) b, ltZ-yes-leZ (pos 0) (volumeAt v 1) c))
+
+  pub first-decides : ltZ (volumeAt v 3) (pos 0) ≡ false → ltZ (volumeAt v 2) (pos 0) ≡ false → ltZ (volumeAt v 1) (pos 0) ≡ false →
+      leZ (pos 0) (volumeAt v 0) ≡ noneNegative v
+  first-decides a b c = sym (tests ∙ rw (ltZ-no-leZ (pos 0) (volumeAt v 3) a, ltZ-no-leZ (pos 0) (volumeAt v 2) b, ltZ-no-leZ (pos 0) (volumeAt v 1) c))
 
 -- ---- the codes, point by point
 
@@ -279,24 +277,15 @@ holds-is ps cs ns c q ek =
 
 -- ---- a cell of solid tables
 
-module _ (ps cs : List ℕ) (np n : ℕ) (q : Position) (S : Solid ps cs np n) (hq : InRange q) (c : ℕ) (c< : c < n) where
+module _ (ps cs : List ℕ) (np n : ℕ) (q : Position) (S : Solid ps cs np n) (c : ℕ) (c< : c < n) where
   corner< : (i : ℕ) → i < 4 → getD (fourAt cs c) i 0 < np
   corner< i h = subst (λ m. m < np) (sym (four-entry cs c i h)) (S .below (4 * c + i) (omega arith))
-
-  pub testable : {k : List ℕ} → k ≡ fourAt cs c → Testable ps k q
-  testable ek =
-      subst (λ k. Testable ps k q) (sym ek)
-      record {
-        has = λ i h. record { few = omega (arith, S .placed .points-few, corner< i h); fits = omega (arith, S .placed .points-fit, corner< i h) };
-        in-range = λ i h. S .placed .in-range (getD (fourAt cs c) i 0) (corner< i h);
-        position = hq;
-      }
 
   pub coded : {codes k : List ℕ} → codes ≡ sideCodes ps np q → k ≡ fourAt cs c → Coded ps codes k q
   coded {codes} ec ek =
       subst (λ k. Coded ps codes k q) (sym ek) (subst (λ codes. Coded ps codes (fourAt cs c) q) (sym ec)
       record {
-        test = testable refl;
+        corners = placed-cornered (S .placed) corner<;
         code< = λ i h. subst (λ m. getD (fourAt cs c) i 0 < m) (sym (codes-length ps np q)) (omega (arith, S .placed .points-few, corner< i h));
         code = λ i h. code-at ps np q (S .placed .points-few) (getD (fourAt cs c) i 0) (corner< i h);
         positive = subst (λ z. pos 0 <ℤ z) (sym (four-volume ps cs c)) (S .positive c c<);

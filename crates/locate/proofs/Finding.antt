@@ -10,7 +10,7 @@ use Rattle.geometry.specs.declared.Position.{Position}
 use Rattle.geometry.specs.Volume.{inBox}
 use Rattle.mesh.specs.declared.Mesh.{Mesh}
 use Rattle.mesh.specs.Tables.{Tables}
-use Rattle.meshcheck.specs.Refusal.{meshRefusal}
+use Rattle.mesh.specs.Refusal.{meshRefusal}
 use Rattle.locate.specs.declared.Located.the-variants.{Cell, Refused}
 use Rattle.locate.specs.Locate.{holds, locateRefusal, locateCall}
 

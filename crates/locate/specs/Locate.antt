@@ -11,7 +11,7 @@ use Rattle.mesh.specs.declared.Mesh.{Mesh}
 use Rattle.mesh.specs.Tables.{Tables, side}
 use Rattle.locate.specs.declared.Located.{Located}
 use Rattle.locate.specs.declared.Located.the-variants.{Cell, Refused}
-use Rattle.meshcheck.specs.Refusal.{meshRefusal}
+use Rattle.mesh.specs.Refusal.{meshRefusal}
 
 -- '"Holds" includes the cell's faces, edges and corners.'
 unfoldable pub holds : Tables → Position → ℕ → Bool
@@ -23,7 +23,7 @@ locateRefusal m t w p =
     cond (not (eqb (meshRefusal m t w false) 0)) (meshRefusal m t w false)
     (cond (not (inBox (m .x) (m .y) (m .z) p)) 4 (cond (not (anyBelow (m .cells) (holds t p))) 7 0))
 
--- 'A position is located in the lowest-numbered cell that holds it.'
+-- condition 2: the lowest-numbered cell that holds the position
 unfoldable pub locateCall : Mesh → Tables → ℕ → Position → Located
 locateCall m t w p =
     cond (eqb (locateRefusal m t w p) 0) (Cell (firstBelow (m .cells) (holds t p))) (Refused (locateRefusal m t w p))

@@ -1,7 +1,4 @@
-// Locating a position: the lowest-numbered cell that holds it.
-
-pub mod holding;
-pub mod locating;
+// Which cell holds a position, and side codes. Definitions and laws: the code is in the crates locate_*.
 
 pub enum Located {
     Cell(u32),

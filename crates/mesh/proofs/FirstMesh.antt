@@ -14,7 +14,7 @@ use Rattle.arith.specs.Table.{allBelow, anyBelow, sum}
 use Rattle.arith.proofs.Flags.{or-other, below-six, below-eight}
 use Rattle.arith.proofs.Order.{arithℤ, *-pos}
 use Rattle.arith.proofs.Ring.{Expr, var, con, _⊕_, _⊖_, _⊗_, eval, check, ring}
-use Rattle.arith.proofs.Determinant.{Vector, det4-of}
+use Rattle.arith.specs.Determinant.{Vector, det4-of}
 use Rattle.arith.proofs.Sums.{sum-cong}
 use Rattle.arith.proofs.Tables.{all-at}
 use Rattle.geometry.specs.Volume.{InBox, volume6, volume}
@@ -23,7 +23,7 @@ use Rattle.mesh.specs.Mesh.{LegalSide, bit, atBit, boxCorner, Wall, low-
 use Rattle.mesh.specs.Check.{usedOk, faceOk}
 use Rattle.mesh.specs.Start.{startPoints, startCorners, startNeighbours, started}
 use Rattle.mesh.specs.Inner.{fourAt, cellAt}
-use Rattle.mesh.specs.Adjacency.{placeIn, oddOrder, facesBack, faceTest, faceNumbers}
+use Rattle.mesh.specs.Inner.Faces.{placeIn, oddOrder, facesBack, faceTest, faceNumbers}
 use Rattle.mesh.proofs.FaceNumbers.{face-eq, opposite<, cell<}
 use Rattle.mesh.proofs.Numbers.{face-numbers-is}
 use Rattle.mesh.proofs.Checked.{used-of, face-mated-of}

@@ -10,6 +10,10 @@ pub mod Faces
 pub mod Held
 pub mod Walls
 pub mod Mates
+pub mod Corners
+pub mod Reading
 pub mod Checked
 pub mod FirstMesh
 pub mod Pieces
+pub mod Tally
+pub mod Verdict

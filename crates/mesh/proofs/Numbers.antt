@@ -19,11 +19,11 @@ use Rattle.arith.proofs.Tables.{any-default, all-at, any-found, any-intro}
 use Rattle.arith.proofs.Determinant.{odd}
 use Rattle.geometry.proofs.Algebra.{volume-cong}
 use Rattle.mesh.specs.declared.Cell.{Cell}
-use Rattle.mesh.specs.Tables.{Tables, pointIn, none, cellOf, opposite, point, corner, across, cornerAt, cellVolume, side, sameFace, placeOf}
+use Rattle.mesh.specs.Tables.{Tables, pointIn, none, cellOf, opposite, point, corner, across, cornerAt, cellVolume, side, sameFace, placeOf, tables}
 use Rattle.mesh.specs.Mesh.{OnFace, Wall, low-x, low-y, low-z, high-x, high-y, high-z, along, level}
 use Rattle.mesh.specs.Check.{matedOk, wallOk, someWall, faceOk}
-use Rattle.mesh.specs.Inner.{tables, volumeOfFour, fourAt, cellAt}
-use Rattle.mesh.specs.Adjacency.{placeIn, oddOrder, facesBack, first, second, third, allOn, onOneWall, faceTest, faceNumbers}
+use Rattle.mesh.specs.Inner.{volumeOfFour, fourAt, cellAt}
+use Rattle.mesh.specs.Inner.Faces.{placeIn, oddOrder, facesBack, first, second, third, allOn, onOneWall, faceTest, faceNumbers}
 use Rattle.mesh.proofs.FaceNumbers.{face-cell, face-opposite}
 use Rattle.mesh.proofs.Links.{Same, same-yes, same-of, link, turned, distinct, far-side-turned, place-of}
 

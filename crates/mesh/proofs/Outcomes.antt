@@ -10,9 +10,9 @@ use lib.Dec.{ltb}
 use lib.ListN.{length, length-replicate}
 use Rattle.arith.proofs.Flags.{split}
 use Rattle.mesh.specs.declared.Started.the-variants.{Accepted, Refused}
-use Rattle.mesh.specs.Tables.{pointCapacity, cellCapacity, cleared}
+use Rattle.mesh.specs.Tables.{pointCapacity, cellCapacity, cleared, tables}
 use Rattle.mesh.specs.Start.{over, short, startRefusal, startAnswer, startTables, started, startedMesh, startPoints, startCorners, startNeighbours, StartLeaves}
-use Rattle.mesh.specs.Inner.{tables, shortLengths, startRefusalOf}
+use Rattle.mesh.specs.Inner.{shortLengths, startRefusalOf}
 
 pub short-is : (ps cs ns : List ℕ) (w : ℕ) → shortLengths (length ps) (length cs) (length ns) w ≡ short (tables ps cs ns) w
 unfolding short shortLengths pointCapacity cellCapacity

@@ -9,10 +9,9 @@ use lib.ListN.{replicate}
 use Rattle.arith.specs.Table.{fill, tabulate, allBelow, anyBelow, sum}
 use Rattle.geometry.specs.Volume.{volume6, volume}
 use Rattle.mesh.specs.declared.Started.the-variants.{Accepted, Refused}
-use Rattle.mesh.specs.Tables.{Tables, pointCapacity, cellCapacity, none, cellOf, pointIn, corner, across, cornerAt, cellVolume, side, faceHas, sameFace}
+use Rattle.mesh.specs.Tables.{Tables, pointCapacity, cellCapacity, none, cellOf, pointIn, corner, across, cornerAt, cellVolume, side, faceHas, sameFace, tables}
 use Rattle.mesh.specs.Check.{sameZ, countsOk, boxOk, usedOk, pointsOk, cellOk, wallOk, someWall, matedOk, faceOk, meshCheck}
 use Rattle.mesh.specs.Start.{startPoints, startCorners, startNeighbours, started, startedMesh, short, startRefusal, startAnswer}
-use Rattle.mesh.specs.Inner.{tables}
 
 -- ---- sides
 

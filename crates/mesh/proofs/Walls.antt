@@ -1,4 +1,4 @@
--- A corner of the box is on the inner side of every wall face (M5).
+-- A position of the box is on the inner side of every wall face (M5).
 use Prim.Native.Nat.{ℕ, _*_, _≤_, _<_}
 use mathlib.Core.Logic.{_⊎_, inl, inr}
 use mathlib.Core.Path.{_≡_, sym, ap, ap₂, _∙_, subst}

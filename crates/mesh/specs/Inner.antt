@@ -1,4 +1,6 @@
--- What the inner functions read, write and ask of the lent tables.
+-- What the inner functions read, write and ask of the lent tables. Below: the test of a face, the cells in one pass.
+pub mod Faces
+pub mod Cells
 use Prim.Native.Nat.{ℕ, _+_, _*_, _/_, _≤_, _<_, min}
 use mathlib.Core.Bool.{Bool, not, cond, _||_}
 use mathlib.Core.List.{List, _∷_, []}
@@ -6,9 +8,11 @@ use lib.Dec.{ltb}
 use lib.ListN.{length, getD, set}
 use lib.IntN.{ℤ, pos}
 use lib.Signed.{_<ℤ_}
+use Rattle.geometry.specs.declared.Tetrahedron.{Tetrahedron}
 use Rattle.geometry.specs.Volume.{InRange, volume}
 use Rattle.mesh.specs.declared.Cell.{Cell}
-use Rattle.mesh.specs.Tables.{Tables, pointIn, cellVolume}
+use Rattle.mesh.specs.Tables.{Tables, tables, pointCapacity, cellCapacity, pointIn, cellVolume}
+use Rattle.mesh.specs.Mesh.{IsMesh}
 use Rattle.mesh.specs.Check.{legalBox}
 
 -- the four entries of cell c
@@ -34,10 +38,6 @@ pub record HasPoint (k : ℕ) (ps : List ℕ) : Type 0 where
   pub few : k < 1024
   pub fits : 3 * k + 3 ≤ length ps
 
--- the three lists of lent slices as tables
-abbrev pub tables : List ℕ → List ℕ → List ℕ → Tables
-tables ps cs ns = record { points = ps; corners = cs; neighbours = ns }
-
 -- the capacities and refusals of a start, of lengths
 abbrev pub pointRoom : ℕ → ℕ
 pointRoom ps = min (ps / 3) 1024
@@ -50,6 +50,16 @@ shortLengths ps cs ns w = ltb (pointRoom ps) 8 || ltb (cellRoom cs ns w) 6
 
 unfoldable pub startRefusalOf : ℕ → ℕ → ℕ → ℕ → ℕ → ℕ → ℕ → ℕ
 startRefusalOf X Y Z ps cs ns w = cond (shortLengths ps cs ns w) 1 (cond (not (legalBox X Y Z)) 2 0)
+
+-- the positions with the numbers k
+abbrev pub positionsOf : List ℕ → List ℕ → Tetrahedron
+positionsOf ps k =
+    record { a = pointIn ps (getD k 0 0); b = pointIn ps (getD k 1 0); c = pointIn ps (getD k 2 0); d = pointIn ps (getD k 3 0) }
+
+-- k has the numbers of four points in range
+pub record Cornered (ps k : List ℕ) : Type 0 where
+  pub has : (i : ℕ) → i < 4 → HasPoint (getD k i 0) ps
+  pub in-range : (i : ℕ) → i < 4 → InRange (pointIn ps (getD k i 0))
 
 abbrev pub volumeOfFour : List ℕ → List ℕ → ℤ
 volumeOfFour ps k = volume (λ i. pointIn ps (getD k i 0))
@@ -81,3 +91,11 @@ pub record Solid (ps cs : List ℕ) (np n : ℕ) : Type 0 where
   pub celled : Celled cs n
   pub below : CornersBelow cs np n
   pub positive : (c : ℕ) → c < n → pos 0 <ℤ cellVolume (tables ps cs []) c
+
+-- the tables t are a mesh of np points and n cells, in some box and with some work area
+pub record SomeMesh (t : Tables) (np n : ℕ) : Type 0 where
+  pub X : ℕ
+  pub Y : ℕ
+  pub Z : ℕ
+  pub w : ℕ
+  pub mesh : IsMesh X Y Z (pointCapacity t) (cellCapacity t w) np n t

@@ -2,5 +2,5 @@ pub mod Tables
 pub mod Mesh
 pub mod Check
 pub mod Start
+pub mod Refusal
 pub mod Inner
-pub mod Adjacency

@@ -5,6 +5,8 @@ use mathlib.Core.List.{List}
 use lib.Dec.{eqb}
 use lib.ListN.{length, getD, replicate}
 use lib.IntN.{ℤ}
+use denote.Ref.{RefT, now}
+use denote.Triple.Both.{Both}
 use Rattle.arith.specs.Table.{anyBelow, allBelow}
 use Rattle.geometry.specs.declared.Position.{Position}
 use Rattle.geometry.specs.Volume.{volume, replaced}
@@ -14,6 +16,23 @@ pub record Tables : Type 0 where
   pub points : List ℕ
   pub corners : List ℕ
   pub neighbours : List ℕ
+
+-- the tables whose entries these lists are
+abbrev pub tables : List ℕ → List ℕ → List ℕ → Tables
+tables points corners neighbours = record { points = points; corners = corners; neighbours = neighbours }
+
+-- the tables in three lent slices: in a `requires`; and in an `ensures`, as the call finds them and as it leaves them
+abbrev pub Slice : Type 0
+Slice = RefT (List ℕ)
+
+abbrev pub tablesIn : Slice → Slice → Slice → Tables
+tablesIn points corners neighbours = tables (now points) (now corners) (now neighbours)
+
+abbrev pub tablesBefore : Both Slice Slice → Both Slice Slice → Both Slice Slice → Tables
+tablesBefore points corners neighbours = tablesIn (points .entry) (corners .entry) (neighbours .entry)
+
+abbrev pub tablesAfter : Both Slice Slice → Both Slice Slice → Both Slice Slice → Tables
+tablesAfter points corners neighbours = tablesIn (points .exit) (corners .exit) (neighbours .exit)
 
 -- 'Point capacity is the point table's length over 3, at most 1,024.'
 unfoldable pub pointCapacity : Tables → ℕ

@@ -1,7 +1,4 @@
-// The mesh record, its lent tables and starting.
-
-pub mod starting;
-pub mod tables;
+// The mesh record, its lent tables, what a mesh is, and what a start leaves. Definitions and laws: the code is in the crates mesh_*.
 
 // Sides, point count and cell count.
 pub struct Mesh {

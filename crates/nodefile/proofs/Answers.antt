@@ -18,8 +18,8 @@ use Rattle.mesh.specs.Check.{legalBox}
 use Rattle.mesh.specs.Start.{over}
 use Rattle.mesh.specs.Inner.{Placed}
 use Rattle.mesh.proofs.Checked.{Counts, counts-of, parts-of}
-use Rattle.meshcheck.specs.Refusal.{meshRefusal}
-use Rattle.meshcheck.proofs.Verdict.{passed, solid}
+use Rattle.mesh.specs.Refusal.{meshRefusal}
+use Rattle.mesh.proofs.Verdict.{passed, solid}
 use Rattle.nodefile.specs.declared.Header.{Header}
 use Rattle.nodefile.specs.declared.Read.the-variants.{Nodes, Refused as ReadRefused}
 use Rattle.nodefile.specs.declared.Written.the-variants.{Bytes, Refused as WriteRefused}

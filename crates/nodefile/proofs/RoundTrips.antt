@@ -15,7 +15,7 @@ use Rattle.mesh.specs.Check.{legalBox}
 use Rattle.mesh.specs.Start.{over}
 use Rattle.mesh.specs.Inner.{Placed}
 use Rattle.mesh.proofs.Checked.{side-yes}
-use Rattle.meshcheck.specs.Refusal.{meshRefusal}
+use Rattle.mesh.specs.Refusal.{meshRefusal}
 use Rattle.nodefile.specs.declared.Header.{Header}
 use Rattle.nodefile.specs.declared.Read.{Read}
 use Rattle.nodefile.specs.declared.Read.the-variants.{Nodes}

@@ -8,7 +8,7 @@ use lib.ListN.{length, take, drop}
 use Rattle.mesh.specs.declared.Mesh.{Mesh}
 use Rattle.mesh.specs.Tables.{Tables, cleared}
 use Rattle.mesh.specs.Start.{over}
-use Rattle.meshcheck.specs.Refusal.{meshRefusal}
+use Rattle.mesh.specs.Refusal.{meshRefusal}
 use Rattle.nodefile.specs.declared.Written.{Written}
 use Rattle.nodefile.specs.declared.Written.the-variants.{Bytes, Refused}
 use Rattle.nodefile.specs.Bytes.{bytesOf}

@@ -1,9 +1,6 @@
 // Node files. A note of any bytes, then records of three numbers, then a trailer of five: the sides, the count, and the distance in
-// bytes from the trailer's start back to the first record. Numbers are unsigned 32-bit, low byte first.
-
-pub mod numbers;
-pub mod reading;
-pub mod writing;
+// bytes from the trailer's start back to the first record. Numbers are unsigned 32-bit, low byte first. Definitions and laws: the code is in
+// the crates nodefile_*.
 
 // Sides and node count.
 pub struct Header {

@@ -1,5 +1,4 @@
--- The definitions that the pieces compute with; the marked pieces; the separating histories; two even nodes.
+-- The definitions that the pieces compute with; the marked pieces; the separating histories.
 pub mod Opened
 pub mod Marked
 pub mod Separating
-pub mod Even

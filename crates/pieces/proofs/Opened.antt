@@ -1,25 +1,25 @@
 -- All the definitions that the pieces compute with: `unfolding opened` opens them.
 use Rattle.arith.specs.Table
 use Rattle.geometry.specs.Volume
-use Rattle.geometry.specs.Sphere
+use Rattle.insphere.specs.Sphere
 use Rattle.mesh.specs.Tables
 use Rattle.mesh.specs.Check
 use Rattle.mesh.specs.Start
-use Rattle.meshcheck.specs.Refusal
+use Rattle.mesh.specs.Refusal
 use Rattle.locate.specs.Locate
 use Rattle.cavity.specs.Answers
 use Rattle.cavity.specs.Cavity
 use Rattle.star.specs.Turn
 use Rattle.star.specs.Star
 use Rattle.insertion.specs.Insertion
-use Rattle.insertion.specs.Calls
+use Rattle.calls.specs.Calls
 use Rattle.pieces.specs.Piece
 
 unfoldable pub opened : Unit {0}
 unfolding Table.fill Table.tabulate Table.allBelow Table.anyBelow Table.countBelow Table.selectFrom Table.selectBelow
     Table.firstFrom Table.firstBelow Table.iterate Table.sum
-    Volume.volume6 Volume.volume
-    Sphere.squaredDistance Sphere.sphereT Sphere.judged Sphere.aboveZero
+    Volume.volume6 Volume.volume Volume.squaredDistance
+    Sphere.sphereT Sphere.judged Sphere.aboveZero
     lib.Ieee.lt lib.Ieee.add lib.Ieee.mul lib.Ieee.ofInt
     Tables.pointCapacity Tables.cellCapacity Tables.pointIn Tables.corner Tables.across Tables.cornerAt Tables.cellVolume
     Tables.side Tables.faceHas Tables.sameFace Tables.mate Tables.placeOf
@@ -29,7 +29,7 @@ unfolding Table.fill Table.tabulate Table.allBelow Table.anyBelow Table.countBel
     Start.startTables
     Refusal.meshRefusal
     Locate.holds
-    Answers.cellT Answers.isYes Answers.reportT Answers.leastT
+    Answers.cellT Answers.saysYes Answers.reportT Answers.leastT
     Cavity.base Cavity.grown Cavity.cavity Cavity.outer Cavity.coplanar Cavity.visible Cavity.facesGood Cavity.cornersGood
     Cavity.marked Cavity.pruned Cavity.corrected Cavity.cavityOf Cavity.correctedCavity Cavity.cavitySize
     Turn.cross Turn.turn
@@ -39,6 +39,6 @@ unfolding Table.fill Table.tabulate Table.allBelow Table.anyBelow Table.countBel
     Insertion.firstCavity Insertion.lastCavity Insertion.cellsMade Insertion.nodeRefusal Insertion.fewerBytes
     Insertion.insertRefusal Insertion.reportOf Insertion.insertedMesh Insertion.insertedTables Insertion.insertUnless
     Insertion.insertCall
-    Calls.startBuild Calls.meshOf Calls.insertOutcome Calls.outcome Calls.meshAfter
-    Piece.reached Piece.given Piece.expected Piece.joined Piece.filled
+    Calls.startBuild Calls.recordAfter Calls.insertOutcome Calls.outcome Calls.meshAfter
+    Piece.reached Piece.given Piece.expected Piece.concatMap Piece.filled
 opened = tt

@@ -1,5 +1,3 @@
 pub mod Piece
 pub mod Marked
-pub mod Wrong
 pub mod Separating
-pub mod Even

@@ -8,14 +8,15 @@ use lib.ListN.{replicate}
 use lib.Ieee.{fin}
 use Rattle.arith.specs.Table.{tabulate, allBelow, countBelow, selectBelow, sum}
 use Rattle.geometry.specs.declared.Position.{Position}
-use Rattle.geometry.specs.declared.Sphere.the-variants.{Inside, Close}
-use Rattle.geometry.specs.Sphere.{squaredDistance, judged}
+use Rattle.insphere.specs.declared.Sphere.the-variants.{Inside, Close}
+use Rattle.geometry.specs.Volume.{position, squaredDistance}
+use Rattle.insphere.specs.Sphere.{judged}
 use Rattle.mesh.specs.Tables.{Tables, none, cornerAt, cellVolume, side}
-use Rattle.cavity.specs.Answers.{sphere, handed, cellT, isYes}
+use Rattle.cavity.specs.Answers.{sphere, handed, cellT, saysYes}
 use Rattle.cavity.specs.Cavity.{inSet, base, coplanar, cornersGood, cavityOf}
 use Rattle.insertion.specs.declared.Inserted.the-variants.{Accepted, Refused}
-use Rattle.insertion.specs.Calls.{startBuild, by-sphere}
-use Rattle.pieces.specs.Piece.{Piece, at, cell, counts, float, lent, reached, given, expected}
+use Rattle.calls.specs.Calls.{startBuild, by-sphere}
+use Rattle.pieces.specs.Piece.{Piece, cell, counts, float, lent, reached, given, expected}
 
 -- '(1,2,3)', 'Inserted: spot 6, made 12, 12 cells.', in tables with so much room
 unfoldable pub inserted : ℕ → Piece
@@ -23,10 +24,10 @@ inserted room =
     record {
       room = room;
       before = [];
-      node = at 1 2 3;
+      node = position 1 2 3;
       answers = sphere;
       answer = Accepted (counts 9 12) record { point = 8; before = 6; after = 6; made = 12; least = float 640 };
-      nodes = at 1 2 3 ∷ [];
+      nodes = position 1 2 3 ∷ [];
       cells =
           cell 8 1 3 7 none 2 10 1 ∷
           cell 0 1 3 8 0 3 11 none ∷
@@ -49,10 +50,10 @@ on-wall =
     record {
       room = 18;
       before = [];
-      node = at 2 2 0;
+      node = position 2 2 0;
       answers = sphere;
       answer = Accepted (counts 9 10) record { point = 8; before = 6; after = 6; made = 10; least = float 512 };
-      nodes = at 2 2 0 ∷ [];
+      nodes = position 2 2 0 ∷ [];
       cells =
           cell 8 1 3 7 none 1 8 none ∷
           cell 8 3 2 7 none 2 0 none ∷
@@ -73,10 +74,10 @@ on-edge =
     record {
       room = 18;
       before = [];
-      node = at 2 0 0;
+      node = position 2 0 0;
       answers = sphere;
       answer = Accepted (counts 9 8) record { point = 8; before = 6; after = 6; made = 8; least = float 256 };
-      nodes = at 2 0 0 ∷ [];
+      nodes = position 2 0 0 ∷ [];
       cells =
           cell 8 1 3 7 none 1 7 none ∷
           cell 8 3 2 7 none 2 0 none ∷
@@ -114,11 +115,11 @@ unfoldable pub second : ℕ → ℕ → Piece
 second a size =
     record {
       room = 18;
-      before = by-sphere 54 (at 1 2 3) ∷ [];
-      node = at 2 2 2;
+      before = by-sphere 54 (position 1 2 3) ∷ [];
+      node = position 2 2 2;
       answers = handed (replicate 12 a);
       answer = Accepted (counts 10 16) record { point = 9; before = size; after = 2; made = 6; least = float 0 };
-      nodes = at 1 2 3 ∷ at 2 2 2 ∷ [];
+      nodes = position 1 2 3 ∷ position 2 2 2 ∷ [];
       cells =
           cell 8 3 2 7 none 2 11 1 ∷
           cell 0 3 2 8 0 3 13 none ∷
@@ -143,9 +144,9 @@ unfoldable pub marked : List Piece
 marked =
     inserted 20 ∷ on-wall ∷ on-edge ∷
     -- '(4,4,4): refused 5. (5,0,0): refused 4.'
-    refused 18 (at 4 4 4) 5 ∷ refused 18 (at 5 0 0) 4 ∷
+    refused 18 (position 4 4 4) 5 ∷ refused 18 (position 5 0 0) 4 ∷
     -- '(1,2,3) with capacity 17: refused 8; with 18: accepted.'
-    refused 17 (at 1 2 3) 8 ∷ inserted 18 ∷
+    refused 17 (position 1 2 3) 8 ∷ inserted 18 ∷
     -- 'With every answer no: the same table.'
     second 1 12 ∷ second 0 2 ∷ []
 
@@ -166,22 +167,22 @@ pub record MarkedPieces : Type 0 where
   pub each-64 : tabulate 6 (cellVolume (box 4)) ≡ replicate 6 (pos 64)
   pub sum-384 : sum 6 (cellVolume (box 4)) ≡ pos 384
   -- '(1,2,3): base is cell 3 alone; there v are 16 each, L are 14, 6, 6, 14, T = 640, close, yes.'
-  pub base-inside : members 6 (base (box 4) 6 (at 1 2 3)) ≡ 3 ∷ []
-  pub volumes-inside : tabulate 4 (λ k. side (box 4) (at 1 2 3) (12 + k)) ≡ replicate 4 (pos 16)
-  pub distances-inside : tabulate 4 (λ k. squaredDistance (cornerAt (box 4) 3 k) (at 1 2 3)) ≡ pos 14 ∷ pos 6 ∷ pos 6 ∷ pos 14 ∷ []
-  pub T-inside : judged (cellT (box 4) (at 1 2 3) 3) ≡ Close (float 640)
-  pub yes-inside : isYes sphere (box 4) (at 1 2 3) 3 ≡ true
+  pub base-inside : members 6 (base (box 4) 6 (position 1 2 3)) ≡ 3 ∷ []
+  pub volumes-inside : tabulate 4 (λ k. side (box 4) (position 1 2 3) (12 + k)) ≡ replicate 4 (pos 16)
+  pub distances-inside : tabulate 4 (λ k. squaredDistance (cornerAt (box 4) 3 k) (position 1 2 3)) ≡ pos 14 ∷ pos 6 ∷ pos 6 ∷ pos 14 ∷ []
+  pub T-inside : judged (cellT (box 4) (position 1 2 3) 3) ≡ Close (float 640)
+  pub yes-inside : saysYes sphere (box 4) (position 1 2 3) 3 ≡ true
   -- '(2,2,0): base 0 and 1; two flat faces'
-  pub base-on-wall : members 6 (base (box 4) 6 (at 2 2 0)) ≡ 0 ∷ 1 ∷ []
-  pub flat-on-wall : countBelow 24 (coplanar (box 4) (at 2 2 0)) ≡ 2
+  pub base-on-wall : members 6 (base (box 4) 6 (position 2 2 0)) ≡ 0 ∷ 1 ∷ []
+  pub flat-on-wall : countBelow 24 (coplanar (box 4) (position 2 2 0)) ≡ 2
   -- '(2,0,0): four flat faces'
-  pub flat-on-edge : countBelow 24 (coplanar (box 4) (at 2 0 0)) ≡ 4
+  pub flat-on-edge : countBelow 24 (coplanar (box 4) (position 2 0 0)) ≡ 4
   -- 'After (1,2,3), insert (2,2,2) with every answer yes: all but the base of two have a lost corner'
-  pub base-second : members 12 (base next 12 (at 2 2 2)) ≡ 0 ∷ 1 ∷ []
+  pub base-second : members 12 (base next 12 (position 2 2 2)) ≡ 0 ∷ 1 ∷ []
   pub lost-second :
-      let cavity = cavityOf next 12 (at 2 2 2) (λ c. true) in
-      allBelow 12 (λ c. inSet (base next 12 (at 2 2 2)) c || not (cornersGood next 12 (at 2 2 2) cavity c)) ≡ true
+      let cavity = cavityOf next 12 (position 2 2 2) (λ c. true) in
+      allBelow 12 (λ c. inSet (base next 12 (position 2 2 2)) c || not (cornersGood next 12 (position 2 2 2) cavity c)) ≡ true
   -- 'Side 131,072 each, P at half: cell 0 gives T = 3 × 2^83, inside.'
-  pub T-half : judged (cellT (box 131072) (at 65536 65536 65536) 0) ≡ Inside (fin false 3 (pos 83))
+  pub T-half : judged (cellT (box 131072) (position 65536 65536 65536) 0) ≡ Inside (fin false 3 (pos 83))
   -- and what the insertions of the table answer and leave
   pub insertions : map given marked ≡ map expected marked

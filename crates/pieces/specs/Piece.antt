@@ -7,13 +7,12 @@ use lib.Ieee.{Float, binary64, ofInt}
 use Rattle.geometry.specs.declared.Position.{Position}
 use Rattle.mesh.specs.declared.Mesh.{Mesh}
 use Rattle.mesh.specs.declared.Cell.{Cell}
-use Rattle.mesh.specs.Tables.{Tables}
+use Rattle.mesh.specs.Tables.{Tables, tables}
 use Rattle.mesh.specs.Start.{startPoints}
-use Rattle.mesh.specs.Inner.{tables}
 use Rattle.cavity.specs.Answers.{Answers}
 use Rattle.insertion.specs.declared.Inserted.{Inserted}
 use Rattle.insertion.specs.Insertion.{Result, insertCall}
-use Rattle.insertion.specs.Calls.{Build, startBuild, Call, by-answers, meshAfter}
+use Rattle.calls.specs.Calls.{Build, startBuild, Call, by-answers, meshAfter}
 
 pub record Piece : Type 0 where
   -- cells that the lent tables and work areas have room for
@@ -27,9 +26,6 @@ pub record Piece : Type 0 where
   pub nodes : List Position
   pub cells : List Cell
   pub zeros : ℕ
-
-abbrev pub at : ℕ → ℕ → ℕ → Position
-at x y z = record { x = x; y = y; z = z }
 
 -- corners, then neighbours, as the listing program prints them
 abbrev pub cell : ℕ → ℕ → ℕ → ℕ → ℕ → ℕ → ℕ → ℕ → Cell
@@ -59,9 +55,9 @@ reached p = meshAfter (startBuild 4 4 4 (lent (p .room)) (3 * p .room)) (p .befo
 unfoldable pub given : Piece → Result Inserted
 given p = insertCall (reached p .mesh) (reached p .tables) (3 * p .room) (p .node) (p .answers)
 
-unfoldable pub joined : {A : Type 0} → (A → List ℕ) → List A → List ℕ
-joined f [] = []
-joined f (x ∷ xs) = f x ++ joined f xs
+unfoldable pub concatMap : {A : Type 0} → (A → List ℕ) → List A → List ℕ
+concatMap f [] = []
+concatMap f (x ∷ xs) = f x ++ concatMap f xs
 
 -- a table's entries, those of so many cells 0, and the 9s that nobody wrote over
 unfoldable pub filled : Piece → List ℕ → List ℕ
@@ -74,7 +70,7 @@ expected p =
       answer = p .answer;
       tables =
           tables
-          (startPoints 4 4 4 ++ (joined (λ q. q .x ∷ q .y ∷ q .z ∷ []) (p .nodes) ++ replicate (3 * (3 - length (p .nodes))) 9))
-          (filled p (joined (λ c. c .corners) (p .cells)))
-          (filled p (joined (λ c. c .neighbours) (p .cells)));
+          (startPoints 4 4 4 ++ (concatMap (λ q. q .x ∷ q .y ∷ q .z ∷ []) (p .nodes) ++ replicate (3 * (3 - length (p .nodes))) 9))
+          (filled p (concatMap (λ c. c .corners) (p .cells)))
+          (filled p (concatMap (λ c. c .neighbours) (p .cells)));
     }

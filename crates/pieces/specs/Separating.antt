@@ -1,22 +1,22 @@
--- For each wrong way to correct a cavity, a history on which it gives another one (`Wrong`), with the right tables.
+-- For each wrong way to correct a cavity (pieces_wrong), a history on which it gives another one, with the right tables.
 use mathlib.Core.List.{List, [], _∷_, map}
 use mathlib.Core.Path.{_≡_}
 use lib.ListN.{replicate}
 use Rattle.mesh.specs.Tables.{none}
 use Rattle.cavity.specs.Answers.{sphere, handed}
 use Rattle.insertion.specs.declared.Inserted.the-variants.{Accepted}
-use Rattle.pieces.specs.Piece.{Piece, at, cell, counts, float, all-yes, given, expected}
-use Rattle.pieces.specs.Wrong.{zero-visible, visibility-only, lost-corners-only, coplanar-keeps, one-round, one-at-a-time, Differs}
+use Rattle.geometry.specs.Volume.{position}
+use Rattle.pieces.specs.Piece.{Piece, cell, counts, float, all-yes, given, expected}
 
 unfoldable pub zero-visible-history : Piece
 zero-visible-history =
     record {
       room = 18;
-      before = all-yes 6 (at 1 0 0) ∷ all-yes 8 (at 2 4 0) ∷ [];
-      node = at 2 0 0;
+      before = all-yes 6 (position 1 0 0) ∷ all-yes 8 (position 2 4 0) ∷ [];
+      node = position 2 0 0;
       answers = handed (replicate 9 1);
       answer = Accepted (counts 11 10) record { point = 10; before = 9; after = 1; made = 2; least = float 0 };
-      nodes = at 1 0 0 ∷ at 2 4 0 ∷ at 2 0 0 ∷ [];
+      nodes = position 1 0 0 ∷ position 2 4 0 ∷ position 2 0 0 ∷ [];
       cells =
           cell 9 1 3 7 none none 7 none ∷
           cell 0 2 6 9 none 4 none none ∷
@@ -35,11 +35,11 @@ unfoldable pub visibility-only-history : Piece
 visibility-only-history =
     record {
       room = 18;
-      before = all-yes 6 (at 4 1 0) ∷ [];
-      node = at 4 2 0;
+      before = all-yes 6 (position 4 1 0) ∷ [];
+      node = position 4 2 0;
       answers = handed (replicate 8 1);
       answer = Accepted (counts 10 9) record { point = 9; before = 8; after = 1; made = 2; least = float 0 };
-      nodes = at 4 1 0 ∷ at 4 2 0 ∷ [];
+      nodes = position 4 1 0 ∷ position 4 2 0 ∷ [];
       cells =
           cell 8 2 6 7 none 2 8 1 ∷
           cell 0 2 6 8 0 3 none none ∷
@@ -57,11 +57,11 @@ unfoldable pub lost-corners-only-history : Piece
 lost-corners-only-history =
     record {
       room = 18;
-      before = all-yes 6 (at 1 0 0) ∷ all-yes 8 (at 4 1 0) ∷ [];
-      node = at 2 0 0;
+      before = all-yes 6 (position 1 0 0) ∷ all-yes 8 (position 4 1 0) ∷ [];
+      node = position 2 0 0;
       answers = handed (replicate 9 1);
       answer = Accepted (counts 11 10) record { point = 10; before = 9; after = 1; made = 2; least = float 0 };
-      nodes = at 1 0 0 ∷ at 4 1 0 ∷ at 2 0 0 ∷ [];
+      nodes = position 1 0 0 ∷ position 4 1 0 ∷ position 2 0 0 ∷ [];
       cells =
           cell 9 3 2 7 none 1 none none ∷
           cell 9 2 6 7 none 3 0 2 ∷
@@ -80,11 +80,11 @@ unfoldable pub coplanar-keeps-history : Piece
 coplanar-keeps-history =
     record {
       room = 18;
-      before = all-yes 6 (at 4 1 0) ∷ [];
-      node = at 4 3 0;
+      before = all-yes 6 (position 4 1 0) ∷ [];
+      node = position 4 3 0;
       answers = handed (replicate 8 1);
       answer = Accepted (counts 10 9) record { point = 9; before = 8; after = 1; made = 2; least = float 0 };
-      nodes = at 4 1 0 ∷ at 4 3 0 ∷ [];
+      nodes = position 4 1 0 ∷ position 4 3 0 ∷ [];
       cells =
           cell 8 2 6 7 none 2 8 1 ∷
           cell 0 2 6 8 0 3 none none ∷
@@ -102,11 +102,11 @@ unfoldable pub one-round-history : Piece
 one-round-history =
     record {
       room = 18;
-      before = all-yes 6 (at 1 0 0) ∷ all-yes 8 (at 4 1 0) ∷ [];
-      node = at 2 0 0;
+      before = all-yes 6 (position 1 0 0) ∷ all-yes 8 (position 4 1 0) ∷ [];
+      node = position 2 0 0;
       answers = sphere;
       answer = Accepted (counts 11 10) record { point = 10; before = 6; after = 2; made = 3; least = float 16 };
-      nodes = at 1 0 0 ∷ at 4 1 0 ∷ at 2 0 0 ∷ [];
+      nodes = position 1 0 0 ∷ position 4 1 0 ∷ position 2 0 0 ∷ [];
       cells =
           cell 9 3 2 7 none 1 none none ∷
           cell 9 2 6 7 none 3 0 2 ∷
@@ -125,11 +125,11 @@ unfoldable pub one-at-a-time-history : Piece
 one-at-a-time-history =
     record {
       room = 18;
-      before = all-yes 6 (at 4 2 0) ∷ [];
-      node = at 4 1 0;
+      before = all-yes 6 (position 4 2 0) ∷ [];
+      node = position 4 1 0;
       answers = handed (replicate 8 1);
       answer = Accepted (counts 10 9) record { point = 9; before = 8; after = 1; made = 2; least = float 0 };
-      nodes = at 4 2 0 ∷ at 4 1 0 ∷ [];
+      nodes = position 4 2 0 ∷ position 4 1 0 ∷ [];
       cells =
           cell 8 3 2 7 none 1 none none ∷
           cell 8 2 6 7 none 3 0 2 ∷
@@ -148,18 +148,6 @@ separating =
     zero-visible-history ∷ visibility-only-history ∷ lost-corners-only-history ∷
     coplanar-keeps-history ∷ one-round-history ∷ one-at-a-time-history ∷ []
 
--- what the histories leave, and that each wrong way leaves another cavity, against the words quoted
-pub record SeparatingPieces : Type 0 where
-  pub insertions : map given separating ≡ map expected separating
-  -- 'it is seen if P lies strictly on its cell's side'
-  pub from-zero-visible : Differs zero-visible zero-visible-history
-  -- 'or a corner that is on no seen outer face of the whole spot'
-  pub from-visibility-only : Differs visibility-only visibility-only-history
-  -- 'an outer face neither flat nor seen'
-  pub from-lost-corners-only : Differs lost-corners-only lost-corners-only-history
-  -- 'on no seen outer face'
-  pub from-coplanar-keeps : Differs coplanar-keeps coplanar-keeps-history
-  -- 'Stop when none is marked.'
-  pub from-one-round : Differs one-round one-round-history
-  -- 'Remove all marked cells together.'
-  pub from-one-at-a-time : Differs one-at-a-time one-at-a-time-history
+-- what they leave
+abbrev pub SeparatingPieces : Type 0
+SeparatingPieces = map given separating ≡ map expected separating

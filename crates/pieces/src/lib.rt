@@ -1,1 +1,1 @@
-// Document 01's marked pieces, and histories on which a wrong correction leaves another cavity: laws only.
+// Document 01's marked pieces and the separating histories, by computation. Definitions and laws: there is no code.

@@ -14,16 +14,16 @@ use Rattle.mesh.specs.Tables.{Tables, pointCapacity, cellCapacity, pointIn, poi
 use Rattle.mesh.specs.Mesh.{boxCorner, IsMesh}
 use Rattle.mesh.specs.Start.{StartLeaves}
 use Rattle.insertion.specs.declared.Listed.{Listed}
-use Rattle.insertion.specs.List.{listedNode, nodeCount, listCall, ListLeaves}
-use Rattle.insertion.specs.Calls.{Build, by-list, meshOfList, acceptedNodes, listOutcome, outcome, meshAfter, acceptedBy, Claim}
-use Rattle.insertion.proofs.Calls.{every-list-after-a-start}
+use Rattle.insertion.specs.List.{listedNode, listedCount, listCall, ListLeaves}
+use Rattle.calls.specs.Calls.{Build, by-list, recordAfterList, acceptedNodes, listOutcome, outcome, meshAfter, acceptedBy, Claim}
+use Rattle.calls.proofs.Calls.{every-list-after-a-start}
 
 abbrev pub built : Mesh → Tables → Build
 built m t = record { mesh = m; tables = t }
 
 -- condition 3 after one list, whatever it answers
 pub claim-after-list : {X Y Z : ℕ} {t t₁ t₂ : Tables} {ws ws₁ ws₂ ws₃ ns : List ℕ} {m : Mesh} {r : Listed} →
-    StartLeaves X Y Z t ws (Accepted m) t₁ ws₁ → ListLeaves m t₁ ws₂ ns r t₂ ws₃ → Claim X Y Z (built (meshOfList m r) t₂) (acceptedNodes ns r)
+    StartLeaves X Y Z t ws (Accepted m) t₁ ws₁ → ListLeaves m t₁ ws₂ ns r t₂ ws₃ → Claim X Y Z (built (recordAfterList m r) t₂) (acceptedNodes ns r)
 unfolding meshAfter acceptedBy outcome listOutcome
 claim-after-list {X} {Y} {Z} {t} {t₁} {t₂} {ws} {ws₁} {ws₂} {ws₃} {ns} {m} {r} S L =
     let c = every-list-after-a-start X Y Z t t₁ ws ws₁ m S (by-list (length ws₂) ns ∷ []) in
@@ -54,25 +54,25 @@ module _ {X Y Z : ℕ} {m : Mesh} {t : Tables} {ps : List Position} (C : Claim X
 
 -- after a list that ends, points 8 onward are its numbers, three a point
 pub listed-points : {X Y Z : ℕ} {m : Mesh} {t : Tables} (ns : List ℕ) (n : ℕ) → length ns ≡ 3 * n →
-    Claim X Y Z (built m t) (tabulate (nodeCount ns) (listedNode ns)) → (m .points ≡ 8 + n) × (take (3 * n) (drop 24 (t .points)) ≡ ns)
+    Claim X Y Z (built m t) (tabulate (listedCount ns) (listedNode ns)) → (m .points ≡ 8 + n) × (take (3 * n) (drop 24 (t .points)) ≡ ns)
 unfolding pointIn
 listed-points {m = m} {t = t} ns n e C =
     (count, ext-getD 0 (take (3 * n) (drop 24 (t .points))) ns long (λ i l. at i (omega (arith, long)) ∙ sym (whole i)))
   where
-    some : nodeCount ns ≡ n
+    some : listedCount ns ≡ n
     some = omega arith
 
     count : m .points ≡ 8 + n
-    count = points-count C ∙ ap (λ k. 8 + k) (tabulate-length (nodeCount ns) (listedNode ns) ∙ some)
+    count = points-count C ∙ ap (λ k. 8 + k) (tabulate-length (listedCount ns) (listedNode ns) ∙ some)
 
     long : length (take (3 * n) (drop 24 (t .points))) ≡ length ns
     long = omega (arith, length-take (3 * n) (drop 24 (t .points)), length-drop 24 (t .points), points-long C, count)
 
     node : (j : ℕ) → j < n → point t (8 + j) ≡ listedNode ns j
     node j h =
-        let k : j < nodeCount ns = omega (arith, some) in
-        let l : j < length (tabulate (nodeCount ns) (listedNode ns)) = omega (arith, tabulate-length (nodeCount ns) (listedNode ns)) in
-        node-at C j (listedNode ns 0) l ∙ tabulate-at (nodeCount ns) (listedNode ns) j (listedNode ns 0) k
+        let k : j < listedCount ns = omega (arith, some) in
+        let l : j < length (tabulate (listedCount ns) (listedNode ns)) = omega (arith, tabulate-length (listedCount ns) (listedNode ns)) in
+        node-at C j (listedNode ns 0) l ∙ tabulate-at (listedCount ns) (listedNode ns) j (listedNode ns 0) k
 
     whole : (i : ℕ) → getD ns i 0 ≡ getD ns (3 * (i / 3) + i % 3) 0
     whole i = let q : i ≡ 3 * (i / 3) + i % 3 = omega arith in ap (λ k. getD ns k 0) q

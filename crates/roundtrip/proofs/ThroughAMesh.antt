@@ -4,7 +4,7 @@ use mathlib.Core.List.{List}
 use mathlib.Core.Path.{_≡_, sym, ap, _∙_}
 use native.Mathlib.Omega.{arith}
 use lib.ListN.{length, take, drop, length-append, length-take}
-use Rattle.insertion.specs.Calls.{meshOfList, acceptedNodes}
+use Rattle.calls.specs.Calls.{recordAfterList, acceptedNodes}
 use Rattle.nodefile.specs.declared.Header.{Header}
 use Rattle.nodefile.specs.declared.Read.the-variants.{Nodes}
 use Rattle.nodefile.specs.Read.{nodes, ReadLeaves}
@@ -23,7 +23,7 @@ numbers-read file out {h} {out′} R =
     omega (arith, length-take (3 * h .count) out′)
 
 pub comes-back : ComesBack
-unfolding meshOfList acceptedNodes
+unfolding recordAfterList acceptedNodes
 comes-back file n out b T =
     let h = T .head in
     let C = claim-after-list (T .start) (T .list) in

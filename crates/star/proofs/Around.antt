@@ -23,7 +23,7 @@ use Rattle.cavity.specs.Cavity.{inSet}
 use Rattle.cavity.specs.Inner.{inside, setOf}
 use Rattle.star.specs.Turn.{State, outFace, cross, turn}
 use Rattle.star.specs.Star.{turnFace}
-use Rattle.star.specs.Inner.{entryAt, Standing}
+use Rattle.star.specs.Inner.{entryAt, CavityIntact}
 use Rattle.star.proofs.Cross.{Valid, state-eq, cross-valid}
 use Rattle.star.proofs.Turn.{turn-stop, turn-step}
 use Rattle.star.proofs.Codes.{set-at}
@@ -74,7 +74,7 @@ set-across n st few long u real = go (ℕ-discrete u none)
         sym (ap (ltb 0) (List·getD-eq-default st 0 {n = u} (omega arith)))
     go (no d) = set-at n st u (real d)
 
-module _ {n : ℕ} {st cs ns : List ℕ} (b : Standing n st cs ns) where
+module _ {n : ℕ} {st cs ns : List ℕ} (b : CavityIntact n st cs ns) where
   abbrev t : Tables
   t = b .was
 

@@ -21,15 +21,15 @@ use Rattle.mesh.specs.Tables.{Tables}
 use Rattle.mesh.specs.Mesh.{bit}
 use Rattle.mesh.proofs.FaceNumbers.{face-cell}
 use Rattle.mesh.proofs.Numbers.{byte≤}
-use Rattle.cavity.specs.Cavity.{inSet, outer, visible, facesGood}
-use Rattle.cavity.specs.Inner.{inside, setOf, facesCode, Inspected}
+use Rattle.cavity.specs.Cavity.{inSet, outer, visible}
+use Rattle.cavity.specs.Inner.{inside, setOf, hidden, fourBits, facesCode, Inspected}
 use Rattle.star.specs.Star.{kept?, keptNumber}
-use Rattle.star.specs.Inner.{marked, slotOf, numberOf, Lookup}
+use Rattle.star.specs.Inner.{bitSet, slotOf, numberOf, Lookup}
 
 -- ---- bits
 
-pub bits-more : (code rest i count : ℕ) → bit rest 0 ≡ bit code (i + 0) → count ≡ countBelow i (marked code) →
-    count + rest % 2 ≡ countBelow (i + 1) (marked code)
+pub bits-more : (code rest i count : ℕ) → bit rest 0 ≡ bit code (i + 0) → count ≡ countBelow i (bitSet code) →
+    count + rest % 2 ≡ countBelow (i + 1) (bitSet code)
 unfolding countBelow
 bits-more code rest i count e h =
     rw (add-one i) (ap₂ _+_ h (value (rest % 2) (omega arith) ∙ ap (λ b. cond (eqb b 1) 1 0) (e ∙ ap (bit code) (add-zero i))) ∙ omega arith)
@@ -51,18 +51,28 @@ module _ (n : ℕ) (st : List ℕ) where
 
 module _ (t : Tables) (p : Position) (s : List Bool) where
   -- a bit is set where the face is visible
-  pub code-bit : (c k : ℕ) → k < 4 → marked (facesCode t p s c) k ≡ visible t p s (4 * c + k)
+  pub code-bit : (c k : ℕ) → k < 4 → bitSet (facesCode t p s c) k ≡ visible t p s (4 * c + k)
   unfolding facesCode
   code-bit c =
-      below-four (λ k. marked (facesCode t p s c) k ≡ visible t p s (4 * c + k))
-      (ap (λ b. eqb b 1) (places (visible t p s (4 * c)) (visible t p s (4 * c + 1)) (visible t p s (4 * c + 2)) (visible t p s (4 * c + 3)) (not (facesGood t p s c)) .0) ∙ (byte (visible t p s (4 * c)) ∙ ap (visible t p s) (sym (add-zero (4 * c)))))
-      (ap (λ b. eqb b 1) (places (visible t p s (4 * c)) (visible t p s (4 * c + 1)) (visible t p s (4 * c + 2)) (visible t p s (4 * c + 3)) (not (facesGood t p s c)) .1) ∙ byte (visible t p s (4 * c + 1)))
-      (ap (λ b. eqb b 1) (places (visible t p s (4 * c)) (visible t p s (4 * c + 1)) (visible t p s (4 * c + 2)) (visible t p s (4 * c + 3)) (not (facesGood t p s c)) .2) ∙ byte (visible t p s (4 * c + 2)))
-      (ap (λ b. eqb b 1) (places (visible t p s (4 * c)) (visible t p s (4 * c + 1)) (visible t p s (4 * c + 2)) (visible t p s (4 * c + 3)) (not (facesGood t p s c)) .3) ∙ byte (visible t p s (4 * c + 3)))
+      let at = places v₀ v₁ v₂ v₃ (fourBits (hidden t p s (4 * c + 0)) (hidden t p s (4 * c + 1)) (hidden t p s (4 * c + 2)) (hidden t p s (4 * c + 3))) in
+      below-four (λ k. bitSet (facesCode t p s c) k ≡ visible t p s (4 * c + k))
+      (ap (λ b. eqb b 1) (at .0) ∙ byte v₀) (ap (λ b. eqb b 1) (at .1) ∙ byte v₁) (ap (λ b. eqb b 1) (at .2) ∙ byte v₂) (ap (λ b. eqb b 1) (at .3) ∙ byte v₃)
     where
-      places : (v w x y z : Bool) → let code = boolByte v + 2 * boolByte w + 4 * boolByte x + 8 * boolByte y + 16 * boolByte z in
+      v₀ : Bool
+      v₀ = visible t p s (4 * c + 0)
+
+      v₁ : Bool
+      v₁ = visible t p s (4 * c + 1)
+
+      v₂ : Bool
+      v₂ = visible t p s (4 * c + 2)
+
+      v₃ : Bool
+      v₃ = visible t p s (4 * c + 3)
+
+      places : (v w x y : Bool) (high : ℕ) → let code = fourBits v w x y + 16 * high in
           (code % 2 ≡ boolByte v) × (code / 2 % 2 ≡ boolByte w) × (code / 2 / 2 % 2 ≡ boolByte x) × (code / 2 / 2 / 2 % 2 ≡ boolByte y)
-      places v w x y z = let a = byte≤ v in let b = byte≤ w in let c = byte≤ x in let d = byte≤ y in omega arith
+      places v w x y high = let a = byte≤ v in let b = byte≤ w in let c = byte≤ x in let d = byte≤ y in omega arith
 
       byte : (b : Bool) → eqb (boolByte b) 1 ≡ b
       byte true = refl
@@ -75,11 +85,11 @@ module _ (t : Tables) (p : Position) (s : List Bool) where
 
   -- the visible faces before face k of cell c
   pub count-cell : (c k : ℕ) → k ≤ 4 → (code : ℕ) → code ≡ facesCode t p s c →
-      countBelow (4 * c + k) (visible t p s) ≡ countBelow (4 * c) (visible t p s) + countBelow k (marked code)
+      countBelow (4 * c + k) (visible t p s) ≡ countBelow (4 * c) (visible t p s) + countBelow k (bitSet code)
   count-cell c k h code e =
       count-append (4 * c) k (visible t p s) ∙
       ap (λ m. countBelow (4 * c) (visible t p s) + m)
-      (count-cong k (λ i. visible t p s (4 * c + i)) (marked code) (λ i l. sym (ap (λ x. marked x i) e ∙ code-bit c i (omega arith))))
+      (count-cong k (λ i. visible t p s (4 * c + i)) (bitSet code) (λ i l. sym (ap (λ x. bitSet x i) e ∙ code-bit c i (omega arith))))
 
   pub count-outside : (c k : ℕ) → k ≤ 4 → inSet s c ≡ false → countBelow (4 * c + k) (visible t p s) ≡ countBelow (4 * c) (visible t p s)
   count-outside c k h e =
@@ -93,13 +103,13 @@ module _ (t : Tables) (n : ℕ) (p : Position) (st fa : List ℕ) (I : Inspected
   s = setOf n st
 
   pub made-more : (c made : ℕ) → c < n → made ≡ countBelow (4 * c) (visible t p (setOf n st)) →
-      made + cond (inside st c) (countBelow 4 (marked (getD fa c 0))) 0 ≡ countBelow (4 * (c + 1)) (visible t p (setOf n st))
+      made + cond (inside st c) (countBelow 4 (bitSet (getD fa c 0))) 0 ≡ countBelow (4 * (c + 1)) (visible t p (setOf n st))
   made-more c made h e =
       let q : 4 * c + 4 ≡ 4 * (c + 1) = omega arith in
       go (split (inside st c)) ∙ ap (λ m. countBelow m (visible t p s)) q
     where
-      go : (inside st c ≡ true) ⊎ (inside st c ≡ false) → made + cond (inside st c) (countBelow 4 (marked (getD fa c 0))) 0 ≡ countBelow (4 * c + 4) (visible t p s)
-      go (inl i) = rw i (ap (λ m. m + countBelow 4 (marked (getD fa c 0))) e ∙ sym (count-cell t p s c 4 (omega arith) (getD fa c 0) (I c h i)))
+      go : (inside st c ≡ true) ⊎ (inside st c ≡ false) → made + cond (inside st c) (countBelow 4 (bitSet (getD fa c 0))) 0 ≡ countBelow (4 * c + 4) (visible t p s)
+      go (inl i) = rw i (ap (λ m. m + countBelow 4 (bitSet (getD fa c 0))) e ∙ sym (count-cell t p s c 4 (omega arith) (getD fa c 0) (I c h i)))
       go (inr i) = rw i (add-zero made ∙ (e ∙ sym (count-outside t p s c 4 (omega arith) (set-at n st c h ∙ i))))
 
   pub number-is : (c kept made : ℕ) → c < n → kept ≡ keptNumber (setOf n st) c → made ≡ countBelow (4 * c) (visible t p (setOf n st)) →

@@ -18,8 +18,10 @@ use Rattle.mesh.proofs.Room.{Room, room-of}
 use Rattle.mesh.proofs.FaceNumbers.{face-cell, face-opposite, face-eq, opposite<}
 use Rattle.cavity.specs.Cavity.{inSet, visible}
 use Rattle.cavity.specs.Inner.{inside, setOf}
+use Rattle.cavity.specs.declared.Node.{Node}
 use Rattle.cavity.proofs.Tests.{visible-of}
-use Rattle.star.specs.Inner.{FaceDone, starred, passed-by, Starred, Replacing, Building}
+use Rattle.star.specs.declared.Replaced.{Replaced}
+use Rattle.star.specs.Inner.{FaceDone, starred, passed-by, Starred, Replacing, StarInProgress}
 use Rattle.star.proofs.Codes.{set-at}
 use Rattle.star.proofs.Around.{set-below}
 use Rattle.star.proofs.Done.{star-none, star-more, cavity-corners, cavity-neighbours}
@@ -32,35 +34,47 @@ faceAt li h = 4 * getD li (h / 4) 0 + h % 4
 unfoldable pub doneBy : Tables → Position → List Bool → List ℕ → ℕ → ℕ → Bool
 doneBy t p s li i g = visible t p s g && anyBelow i (λ h. eqb (faceAt li h) g)
 
-module _ {t : Tables} {np n : ℕ} {p : Position} {st li : List ℕ} {size : ℕ} {fa nu : List ℕ} {made : ℕ} (B : Replacing t np n p st li size fa nu made) where
+module _ {t : Tables} {d : Node} {st li fa nu : List ℕ} {counts : Replaced} (B : Replacing t d st li fa nu counts) where
+  abbrev n : ℕ
+  n = d .cells
+
+  abbrev p : Position
+  p = d .position
+
+  abbrev np : ℕ
+  np = d .points
+
+  abbrev size : ℕ
+  size = counts .removed
+
   abbrev s : List Bool
   s = setOf n st
 
   abbrev R : Room (pointCapacity t) (cellCapacity t (B .mesh .w)) t
   R = room-of t (B .mesh .w)
 
-  pub listed-few : size ≤ 4096
+  pub listed-few : counts .removed ≤ 4096
   listed-few = omega (arith, B .listed .counted, count-le n (inside st), B .mesh .mesh .cells≤, R .cells≤)
 
-  pub listed-held : (h : ℕ) → h < 4 * size → inSet (setOf n st) (getD li (h / 4) 0) ≡ true
+  pub listed-held : (h : ℕ) → h < 4 * counts .removed → inSet (setOf (d .cells) st) (getD li (h / 4) 0) ≡ true
   listed-held h l =
       set-at n st (getD li (h / 4) 0) (B .listed .below (h / 4) (omega arith)) ∙ B .listed .listed (h / 4) (omega arith)
 
-  pub next-few : np < 1024
+  pub next-few : d .points < 1024
   next-few = omega (arith, B .next, R .points≤)
 
-  pub done-visible : (i g : ℕ) → doneBy t p (setOf n st) li i g ≡ true → visible t p (setOf n st) g ≡ true
+  pub done-visible : (i g : ℕ) → doneBy t (d .position) (setOf (d .cells) st) li i g ≡ true → visible t (d .position) (setOf (d .cells) st) g ≡ true
   unfolding doneBy
   done-visible i g e = and-left (visible t p s g) (anyBelow i (λ h. eqb (faceAt li h) g)) e
 
-  pub done-none : Starred t n p np (setOf n st) (doneBy t p (setOf n st) li 0) (t .corners) (t .neighbours)
+  pub done-none : Starred t (d .cells) (d .position) (d .points) (setOf (d .cells) st) (doneBy t (d .position) (setOf (d .cells) st) li 0) (t .corners) (t .neighbours)
   unfolding doneBy anyBelow
   done-none = subst (λ D. Starred t n p np s D (t .corners) (t .neighbours)) (λ ι g. none-yet g ι) (star-none (B .mesh .mesh) R p np st (B .ready .room))
     where
       none-yet : (g : ℕ) → false ≡ (visible t p s g && false)
       none-yet g = sym (fails (visible t p s g && false) (λ e. clash (and-right (visible t p s g) false e) refl))
 
-  unfoldable pub building : (i : ℕ) {cs ns : List ℕ} → Starred t n p np (setOf n st) (doneBy t p (setOf n st) li i) cs ns → Building n st fa nu cs ns
+  unfoldable pub building : (i : ℕ) {cs ns : List ℕ} → Starred t (d .cells) (d .position) (d .points) (setOf (d .cells) st) (doneBy t (d .position) (setOf (d .cells) st) li i) cs ns → StarInProgress (d .cells) st fa nu cs ns
   building i S = record {
     standing = record {
       was = t;
@@ -106,8 +120,8 @@ module _ {t : Tables} {np n : ℕ} {p : Position} {st li : List ℕ} {size : ℕ
       again : (h : ℕ) → h < i → faceAt li h ≡ faceAt li i → ⊥
       again h l e = B .listed .apart (h / 4) (i / 4) (omega arith) (omega arith) (omega arith)
 
-  pub star-next : (i : ℕ) → i < 4 * size → {cs ns cs′ ns′ : List ℕ} → FaceDone t n p np (setOf n st) (faceAt li i) cs ns cs′ ns′ →
-      Starred t n p np (setOf n st) (doneBy t p (setOf n st) li i) cs ns → Starred t n p np (setOf n st) (doneBy t p (setOf n st) li (i + 1)) cs′ ns′
+  pub star-next : (i : ℕ) → i < 4 * counts .removed → {cs ns cs′ ns′ : List ℕ} → FaceDone t (d .cells) (d .position) (d .points) (setOf (d .cells) st) (faceAt li i) cs ns cs′ ns′ →
+      Starred t (d .cells) (d .position) (d .points) (setOf (d .cells) st) (doneBy t (d .position) (setOf (d .cells) st) li i) cs ns → Starred t (d .cells) (d .position) (d .points) (setOf (d .cells) st) (doneBy t (d .position) (setOf (d .cells) st) li (i + 1)) cs′ ns′
   unfolding doneBy
   star-next i i< {cs} {ns} {cs′} {ns′} (starred v F) S =
       subst (λ D. Starred t n p np s D cs′ ns′) (λ ι g. more g ι)
@@ -145,8 +159,8 @@ module _ {t : Tables} {np n : ℕ} {p : Position} {st li : List ℕ} {size : ℕ
           go q (inr f) = f
 
   -- every visible face comes once
-  pub star-all : (i : ℕ) → 4 * size ≤ i → {cs ns : List ℕ} → Starred t n p np (setOf n st) (doneBy t p (setOf n st) li i) cs ns →
-      Starred t n p np (setOf n st) (visible t p (setOf n st)) cs ns
+  pub star-all : (i : ℕ) → 4 * counts .removed ≤ i → {cs ns : List ℕ} → Starred t (d .cells) (d .position) (d .points) (setOf (d .cells) st) (doneBy t (d .position) (setOf (d .cells) st) li i) cs ns →
+      Starred t (d .cells) (d .position) (d .points) (setOf (d .cells) st) (visible t (d .position) (setOf (d .cells) st)) cs ns
   unfolding doneBy
   star-all i i≥ {cs} {ns} S = subst (λ D. Starred t n p np s D cs ns) (λ ι g. every g ι) S
     where

@@ -24,7 +24,7 @@ use Rattle.mesh.proofs.Held.{side-at, plane-on-wall}
 use Rattle.star.specs.Turn.{State, inFace, outFace, flip, turn}
 use Rattle.cavity.specs.Cavity.{outer, inSet, visible, coplanar}
 use Rattle.star.specs.Star.{kept?, newCount, keptNumber, madeNumber, oldAcross, starAcross, madeAcross, turnFace, star}
-use Rattle.cavity.specs.Starlike.{Starlike}
+use Rattle.cavity.specs.Inner.Star.{StarShaped}
 use Rattle.star.proofs.Cross.{Valid, OnEdge, state-eq}
 use Rattle.star.proofs.Turn.{turn-valid, turn-ends, turn-back, turn-edge, turned}
 use Rattle.star.proofs.Edge.{edgeVolume, walk-volume}
@@ -60,7 +60,7 @@ visible-not-coplanar t p s f v = go (split (coplanar t p f))
     go (inr c) = c
 
 -- seen from outside, a face of the cavity with a neighbour is visible
-pub mate-visible : {X Y Z pc cc np n : ℕ} {t : Tables} → IsMesh X Y Z pc cc np n t → Room pc cc t → {p : Position} {s : List Bool} → Starlike t n p s →
+pub mate-visible : {X Y Z pc cc np n : ℕ} {t : Tables} → IsMesh X Y Z pc cc np n t → Room pc cc t → {p : Position} {s : List Bool} → StarShaped t n p s →
     (f : ℕ) → f < 4 * n → across t f ≢ none → inSet s (cellOf f) ≡ false → inSet s (across t f) ≡ true → visible t p s (mate t f) ≡ true
 mate-visible {t = t} M R {p} {s} C f f< real out inn = go (C .faces (mate t f) (mate< M R f f< real)
     (outer-yes t s (mate t f) (ap (inSet s) (mated M R f f< real .far-cell) ∙ inn) (ap (inSet s) (mated M R f f< real .back) ∙ out)))
@@ -74,7 +74,7 @@ unfoldable pub Good : ℕ → ℕ → ℕ → Tables → ℕ → ℕ → Type 0
 Good X Y Z t n f = ((across t f ≡ none) × OnWall X Y Z t f) ⊎ ((across t f < n) × ((g : ℕ) × Mated t f g))
 
 module _ {X Y Z pc cc np n : ℕ} {t : Tables} (M : IsMesh X Y Z pc cc np n t) {p : Position} {s : List Bool}
-    (C : Starlike t n p s) (F : Fits pc cc np n t p s) where
+    (C : StarShaped t n p s) (F : Fits pc cc np n t p s) where
   abbrev R : Room pc cc t
   R = F .room
 

@@ -25,15 +25,15 @@ use Rattle.mesh.proofs.FaceNumbers.{face-cell, opposite<, cell<, face-eq}
 use Rattle.mesh.proofs.Held.{side-at}
 use Rattle.cavity.specs.Cavity.{outer, inSet, base, visible, coplanar, correctedCavity}
 use Rattle.star.specs.Star.{kept?, keptCount, madeCount, newCount, keptNumber, madeNumber, star}
-use Rattle.cavity.specs.Starlike.{Seen, Starlike}
+use Rattle.cavity.specs.Inner.Star.{Exposed, StarShaped}
 use Rattle.star.proofs.FaceSums.{sum-outer}
 use Rattle.cavity.proofs.Tests.{visible-of, coplanar-of}
-use Rattle.cavity.proofs.Correction.{corrected-starlike}
+use Rattle.cavity.proofs.Correction.{corrected-star-shaped}
 use Rattle.star.proofs.Star.{Fits, Origin, origin, kept-new<, made<, new≤, new-room, kept-corner, made-apex, made-other, old-point, new-point, from-kept, from-made}
 use Rattle.star.proofs.NewFaces.{Good, inside, kept-volume, made-volume, kept-good, made-good}
 
 module _ {X Y Z pc cc np n : ℕ} {t : Tables} (M : IsMesh X Y Z pc cc np n t) {p : Position} {s : List Bool}
-    (C : Starlike t n p s) (F : Fits pc cc np n t p s) where
+    (C : StarShaped t n p s) (F : Fits pc cc np n t p s) where
   abbrev R : Room pc cc t
   R = F .room
 
@@ -118,20 +118,20 @@ module _ {X Y Z pc cc np n : ℕ} {t : Tables} (M : IsMesh X Y Z pc cc np n t) {
 
   -- ---- N4: no point is lost, and the new one is a corner
 
-  seen-corner : (v : ℕ) → Seen t n p s v → CornerOf t′ n′ v
-  seen-corner v q = record {
+  exposed-corner : (v : ℕ) → Exposed t n p s v → CornerOf t′ n′ v
+  exposed-corner v q = record {
     cell = madeNumber t n p s (q .face);
     place = q .on .place;
-    cell< = made< t n p s (q .face) (q .face<) (q .seen);
+    cell< = made< t n p s (q .face) (q .face<) (q .face-visible);
     place< = q .on .place<;
-    is = made-other F (q .face) (q .face<) (q .seen) (q .on .place) (q .on .place<) (q .on .off) ∙ q .on .is;
+    is = made-other F (q .face) (q .face<) (q .face-visible) (q .on .place) (q .on .place<) (q .on .off) ∙ q .on .is;
   }
 
   old-used : (k : ℕ) → CornerOf t n k → CornerOf t′ n′ k
   old-used k u = go (split (inSet s (u .cell)))
     where
       go : (inSet s (u .cell) ≡ true) ⊎ (inSet s (u .cell) ≡ false) → CornerOf t′ n′ k
-      go (inl e) = seen-corner k (subst (Seen t n p s) (u .is) (C .corners (u .cell) (u .place) e (u .place<)))
+      go (inl e) = exposed-corner k (subst (Exposed t n p s) (u .is) (C .corners (u .cell) (u .place) e (u .place<)))
       go (inr e) = record {
         cell = keptNumber s (u .cell);
         place = u .place;
@@ -143,13 +143,13 @@ module _ {X Y Z pc cc np n : ℕ} {t : Tables} (M : IsMesh X Y Z pc cc np n t) {
   new-used : CornerOf t′ n′ np
   new-used = tip (C .corners (C .some .0) 0 (C .some .1) (omega arith))
     where
-      tip : {v : ℕ} → Seen t n p s v → CornerOf t′ n′ np
+      tip : {v : ℕ} → Exposed t n p s v → CornerOf t′ n′ np
       tip q = record {
         cell = madeNumber t n p s (q .face);
         place = opposite (q .face);
-        cell< = made< t n p s (q .face) (q .face<) (q .seen);
+        cell< = made< t n p s (q .face) (q .face<) (q .face-visible);
         place< = opposite< (q .face);
-        is = made-apex F (q .face) (q .face<) (q .seen) (opposite (q .face)) (opposite< (q .face)) refl;
+        is = made-apex F (q .face) (q .face<) (q .face-visible) (opposite (q .face)) (opposite< (q .face)) refl;
       }
 
   -- below np + 1: an old point, or the new one
@@ -244,7 +244,7 @@ pub insertion : {X Y Z pc cc np n : ℕ} {t : Tables} → IsMesh X Y Z pc cc np 
     np < pc → n + madeCount t n p (correctedCavity t n p yes?) ≤ cc →
     Inserted X Y Z pc cc np n t p (correctedCavity t n p yes?)
 insertion {X} {Y} {Z} {pc} {cc} {np} {n} {t} M R p box free c held yes? next cells = record {
-  mesh = star-mesh M (corrected-starlike M R p free yes? c held) fits box;
+  mesh = star-mesh M (corrected-star-shaped M R p free yes? c held) fits box;
   room = new-room fits;
   old = old-point fits;
   new = new-point fits;

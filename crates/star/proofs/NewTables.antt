@@ -1,7 +1,7 @@
 -- The starred tables can be packed, and packed they are the new tables.
 use Prim.Native.Nat.{ℕ, _+_, _*_, _-_, _≤_, _<_}
 use mathlib.Core.Bool.{Bool, true, false, not}
-use mathlib.Core.List.{List}
+use mathlib.Core.List.{List, []}
 use mathlib.Core.Logic.{_≢_, _⊎_, inl, inr}
 use mathlib.Core.Path.{_≡_, refl, sym, ap, _∙_, subst}
 use native.Mathlib.Omega.{arith}
@@ -12,15 +12,18 @@ use Rattle.arith.specs.Table.{countBelow, selectBelow, tabulate}
 use Rattle.arith.proofs.Counting.{count-cong, count-lt, count-not, select-picks, Picked}
 use Rattle.arith.proofs.Flags.{split, clash}
 use Rattle.geometry.specs.declared.Position.{Position}
-use Rattle.mesh.specs.Tables.{Tables, pointCapacity, cellCapacity, none, cellOf, opposite, corner, across, mate}
+use Rattle.mesh.specs.Tables.{Tables, tables, pointCapacity, cellCapacity, none, cellOf, opposite, corner, across, mate}
 use Rattle.mesh.specs.Mesh.{IsMesh}
+use Rattle.mesh.specs.Inner.{HasPoint}
 use Rattle.mesh.proofs.Room.{Room, room-of}
 use Rattle.mesh.proofs.Faces.{few, glued, mated}
 use Rattle.mesh.proofs.FaceNumbers.{face-cell, face-eq, opposite<}
 use Rattle.cavity.specs.Cavity.{inSet, outer, coplanar, visible}
 use Rattle.cavity.specs.Inner.{inside, setOf}
+use Rattle.cavity.specs.declared.Node.{Node}
 use Rattle.cavity.proofs.Tests.{visible-of, outer-of}
-use Rattle.star.specs.Star.{turnFace, kept?, keptCount, madeCount, newCount, keptCells, madeFaces, keptNumber, madeNumber, oldAcross, starAcross, madeCorner, madeAcross, entry, newCorners, newNeighbours}
+use Rattle.star.specs.declared.Replaced.{Replaced}
+use Rattle.star.specs.Star.{turnFace, newPoints, star, kept?, keptCount, madeCount, newCount, keptCells, madeFaces, keptNumber, madeNumber, oldAcross, starAcross, madeCorner, madeAcross, entry, newCorners, newNeighbours}
 use Rattle.star.specs.Inner.{slotOf, numberOf, entryAt, starSlot, slotAcross, Starred, Replacing, stays, packNumber, renumbered, Packing, Zeroed, Packed}
 use Rattle.star.proofs.Turn.{turn-ends}
 use Rattle.star.proofs.Star.{table-is, kept-new<, kept<, made<}
@@ -31,12 +34,27 @@ use Rattle.star.proofs.Slots.{visible<, slot<}
 use Rattle.star.proofs.Done.{slot≥}
 use Rattle.star.proofs.Moves.{pack-old, pack-new}
 
-module _ {t : Tables} {np n : ℕ} {p : Position} {st li : List ℕ} {size : ℕ} {fa nu : List ℕ} {made : ℕ} (B : Replacing t np n p st li size fa nu made) where
+module _ {t : Tables} {d : Node} {st li fa nu : List ℕ} {counts : Replaced} (B : Replacing t d st li fa nu counts) where
+  abbrev n : ℕ
+  n = d .cells
+
+  abbrev p : Position
+  p = d .position
+
+  abbrev np : ℕ
+  np = d .points
+
+  abbrev size : ℕ
+  size = counts .removed
+
+  abbrev made : ℕ
+  made = counts .made
+
   abbrev s : List Bool
   s = setOf n st
 
-  abbrev seen : ℕ → Bool
-  seen = visible t p s
+  abbrev visibleHere : ℕ → Bool
+  visibleHere = visible t p s
 
   abbrev M : IsMesh (B .mesh .X) (B .mesh .Y) (B .mesh .Z) (pointCapacity t) (cellCapacity t (B .mesh .w)) np n t
   M = B .mesh .mesh
@@ -58,15 +76,18 @@ module _ {t : Tables} {np n : ℕ} {p : Position} {st li : List ℕ} {size : ℕ
       let e : countBelow n (inSet s) ≡ size = count-cong n (inSet s) (inside st) (set-at n st) ∙ B .listed .counted in
       omega (arith, count-not n (inSet s), e)
 
-  pub size≤ : size ≤ n
+  pub size≤ : counts .removed ≤ d .cells
   size≤ = omega (arith, dropped)
 
   new-count : newCount t n p s ≡ n + made - size
   unfolding newCount
   new-count = omega (arith, dropped, B .counted)
 
-  slot-below : (f : ℕ) → seen f ≡ true → slotOf t n p s f < n + made
+  slot-below : (f : ℕ) → visibleHere f ≡ true → slotOf t n p s f < n + made
   slot-below f v = omega (arith, slot< t n p st f v, B .counted)
+
+  pub point-room : HasPoint (d .points) (t .points)
+  point-room = record { few = omega (arith, B .next, R .points≤); fits = omega (arith, B .next, R .points-fit) }
 
   -- ---- numbers
 
@@ -76,7 +97,7 @@ module _ {t : Tables} {np n : ℕ} {p : Position} {st li : List ℕ} {size : ℕ
 
   made-is : (f : ℕ) → N (slotOf t n p s f) ≡ madeNumber t n p s f
   unfolding slotOf madeNumber
-  made-is f = pack-new n size nu (n + countBelow f seen) (omega arith) ∙ omega (arith, dropped)
+  made-is f = pack-new n size nu (n + countBelow f visibleHere) (omega arith) ∙ omega (arith, dropped)
 
   kept-lt : (d c : ℕ) → d < c → kept? s d ≡ true → keptNumber s d < keptNumber s c
   unfolding keptNumber
@@ -89,12 +110,12 @@ module _ {t : Tables} {np n : ℕ} {p : Position} {st li : List ℕ} {size : ℕ
   stays-new c h = rw (le-leb n c h)
 
   -- the face whose slot c is
-  face-of : (c : ℕ) → n ≤ c → c < n + made → (f : ℕ) × (seen f ≡ true) × (slotOf t n p s f ≡ c)
+  face-of : (c : ℕ) → n ≤ c → c < n + made → (f : ℕ) × (visibleHere f ≡ true) × (slotOf t n p s f ≡ c)
   unfolding slotOf madeCount
-  face-of c h l = go (select-picks (4 * n) seen (c - n) (omega (arith, B .counted)))
+  face-of c h l = go (select-picks (4 * n) visibleHere (c - n) (omega (arith, B .counted)))
     where
-      go : Picked (4 * n) seen (c - n) (getD (selectBelow (4 * n) seen) (c - n) 0) → (f : ℕ) × (seen f ≡ true) × (n + countBelow f seen ≡ c)
-      go q = (getD (selectBelow (4 * n) seen) (c - n) 0, q .passes, omega (arith, q .counted))
+      go : Picked (4 * n) visibleHere (c - n) (getD (selectBelow (4 * n) visibleHere) (c - n) 0) → (f : ℕ) × (visibleHere f ≡ true) × (n + countBelow f visibleHere ≡ c)
+      go q = (getD (selectBelow (4 * n) visibleHere) (c - n) 0, q .passes, omega (arith, q .counted))
 
   -- ---- entries
 
@@ -114,10 +135,10 @@ module _ {t : Tables} {np n : ℕ} {p : Position} {st li : List ℕ} {size : ℕ
   right-kept : {e r : ℕ} (u : ℕ) → u < n → inSet s u ≡ false → e ≡ u → r ≡ keptNumber s u → Right e r
   right-kept u h k x y = right-cell (omega arith) (ap N x ∙ (kept-is u h (ap not k) ∙ sym y))
 
-  right-made : {e r : ℕ} (g : ℕ) → seen g ≡ true → e ≡ slotOf t n p s g → r ≡ madeNumber t n p s g → Right e r
+  right-made : {e r : ℕ} (g : ℕ) → visibleHere g ≡ true → e ≡ slotOf t n p s g → r ≡ madeNumber t n p s g → Right e r
   right-made g v x y = right-cell (omega (arith, slot-below g v)) (ap N x ∙ (made-is g ∙ sym y))
 
-  module _ {cs ns : List ℕ} (S : Starred t n p np (setOf n st) (visible t p (setOf n st)) cs ns) where
+  module _ {cs ns : List ℕ} (S : Starred t (d .cells) (d .position) (d .points) (setOf (d .cells) st) (visible t (d .position) (setOf (d .cells) st)) cs ns) where
     kept-right : (c i : ℕ) → c < n → kept? s c ≡ true → i < 4 → Right (entryAt ns c i) (oldAcross t n p s (4 * c + i))
     unfolding oldAcross
     kept-right c i h k j = go (ℕ-discrete (across t q) none) (split (inSet s (across t q)))
@@ -134,26 +155,26 @@ module _ {t : Tables} {np n : ℕ} {p : Position} {st li : List ℕ} {size : ℕ
         go : Dec (across t q ≡ none) → (inSet s (across t q) ≡ true) ⊎ (inSet s (across t q) ≡ false) → Right (entryAt ns c i) (oldAcross t n p s (4 * c + i))
         go (yes e) b = right-none (S .unnamed q q< (λ r. absurd (r e)) ∙ e) (rw (eq-eqb (across t (4 * c + i)) none e))
         go (no r) (inl b) =
-            let v : seen (mate t q) ≡ true = mate-visible M R (B .ready .like) q q< r out b in
+            let v : visibleHere (mate t q) ≡ true = mate-visible M R (B .ready .like) q q< r out b in
             right-made (mate t q) v (S .named q q< r v) (rw (ne-eqb (across t (4 * c + i)) none r, b))
         go (no r) (inr b) =
             right-kept (across t q) (M .across< q q< r) b (S .unnamed q q< (λ r. free r)) (rw (ne-eqb (across t (4 * c + i)) none r, b))
           where
-            free : across t q ≢ none → seen (mate t q) ≡ false
-            free r = by (split (seen (mate t q)))
+            free : across t q ≢ none → visibleHere (mate t q) ≡ false
+            free r = by (split (visibleHere (mate t q)))
               where
-                by : (seen (mate t q) ≡ true) ⊎ (seen (mate t q) ≡ false) → seen (mate t q) ≡ false
+                by : (visibleHere (mate t q) ≡ true) ⊎ (visibleHere (mate t q) ≡ false) → visibleHere (mate t q) ≡ false
                 by (inl v) = clash (ap (inSet s) (sym (mated M R q q< r .far-cell)) ∙ visible-of t p s (mate t q) v .held) b
                 by (inr v) = v
 
-    turn-outer : (f j : ℕ) → seen f ≡ true → j < 4 → j ≢ opposite f → outer (across t) (inSet s) (turnFace t n s f j) ≡ true
+    turn-outer : (f j : ℕ) → visibleHere f ≡ true → j < 4 → j ≢ opposite f → outer (across t) (inSet s) (turnFace t n s f j) ≡ true
     unfolding turnFace
     turn-outer f j v h d =
         turn-ends (glued M R) (set-below n st) record { cell = cellOf f; entry = opposite f; exit = j }
         record { held = visible-of t p s f v .held; entry< = opposite< f; exit< = h; apart = λ e. d (sym e) }
         (ap (outer (across t) (inSet s)) (face-eq f) ∙ visible-of t p s f v .outer?) n (omega arith)
 
-    own-right : (f : ℕ) → seen f ≡ true → Right (across t f) (oldAcross t n p s f)
+    own-right : (f : ℕ) → visibleHere f ≡ true → Right (across t f) (oldAcross t n p s f)
     unfolding oldAcross
     own-right f v = go (ℕ-discrete (across t f) none)
       where
@@ -168,11 +189,11 @@ module _ {t : Tables} {np n : ℕ} {p : Position} {st li : List ℕ} {size : ℕ
     unfolding starSlot starAcross
     turned-right g o = go (B .ready .like .faces g (omega (arith, set-below n st (cellOf g) (outer-of t s g o .held))) o)
       where
-        go : (seen g ≡ true) ⊎ (coplanar t p g ≡ true) → Right (starSlot t n p s g) (starAcross t n p s g)
+        go : (visibleHere g ≡ true) ⊎ (coplanar t p g ≡ true) → Right (starSlot t n p s g) (starAcross t n p s g)
         go (inl w) = right-made g w (rw (visible-not-coplanar t p s g w)) (rw (visible-not-coplanar t p s g w))
         go (inr w) = right-none (rw w) (rw w)
 
-    made-right : (f j : ℕ) → seen f ≡ true → j < 4 → Right (slotAcross t n p s f j) (madeAcross t n p s f j)
+    made-right : (f j : ℕ) → visibleHere f ≡ true → j < 4 → Right (slotAcross t n p s f j) (madeAcross t n p s f j)
     unfolding slotAcross madeAcross
     made-right f j v h = go (ℕ-discrete j (opposite f))
       where
@@ -182,7 +203,7 @@ module _ {t : Tables} {np n : ℕ} {p : Position} {st li : List ℕ} {size : ℕ
 
     -- ---- the starred tables can be packed
 
-    pub packing : Packing n (n + made) st (packNumber n size nu) cs ns
+    pub packing : Packing (d .cells) (d .cells + counts .made) st (packNumber (d .cells) (counts .removed) nu) cs ns
     packing = record {
       states = B .listed .states;
       few = omega (arith, room, R .cells≤);
@@ -209,7 +230,7 @@ module _ {t : Tables} {np n : ℕ} {p : Position} {st li : List ℕ} {size : ℕ
         names c i h k j (yes x) = kept-right c i x (sym (stays-old c x) ∙ k) j .names
         names c i h k j (no x) = new (face-of c (omega arith) h)
           where
-            new : (f : ℕ) × (seen f ≡ true) × (slotOf t n p s f ≡ c) → entryAt ns c i ≢ none → entryAt ns c i < n + made
+            new : (f : ℕ) × (visibleHere f ≡ true) × (slotOf t n p s f ≡ c) → entryAt ns c i ≢ none → entryAt ns c i < n + made
             new q d =
                 let e : slotAcross t n p s (q .0) i ≡ entryAt ns c i = sym (S .neighbours-new (q .0) i (q .1) j) ∙ ap (λ x. entryAt ns x i) (q .2) in
                 subst (λ x. x < n + made) e (made-right (q .0) i (q .1) j .names (λ z. d (sym e ∙ z)))
@@ -219,7 +240,7 @@ module _ {t : Tables} {np n : ℕ} {p : Position} {st li : List ℕ} {size : ℕ
     -- one table: what each kept and each new cell has where it stands after the move
     table-after : (old new : ℕ → ℕ → ℕ) (l₀ l₁ l′ : List ℕ) → length l₁ ≡ length l₀ → Zeroed (4 * (n + made - size)) (4 * (n + made)) l₁ l′ →
         ((c i : ℕ) → c < n → kept? s c ≡ true → i < 4 → entryAt l₁ (N c) i ≡ old c i) →
-        ((f j : ℕ) → seen f ≡ true → j < 4 → entryAt l₁ (N (slotOf t n p s f)) j ≡ new f j) →
+        ((f j : ℕ) → visibleHere f ≡ true → j < 4 → entryAt l₁ (N (slotOf t n p s f)) j ≡ new f j) →
         ((q : ℕ) → 4 * (n + made) ≤ q → getD l₁ q 0 ≡ getD l₀ q 0) →
         l′ ≡ tabulate (length l₀) (entry (keptCells n s) (madeFaces t n p s) n old new l₀)
     table-after old new l₀ l₁ l′ long Z kept made′ beyond =
@@ -233,8 +254,8 @@ module _ {t : Tables} {np n : ℕ} {p : Position} {st li : List ℕ} {size : ℕ
         (λ q h k. Z .zeros q (omega (arith, new-count)) (omega (arith, B .counted)))
         (λ q h k. Z .after q (omega (arith, B .counted)) ∙ beyond q (omega (arith, B .counted)))
 
-    module _ {cs′ ns′ : List ℕ} (P : Packed n (n + made) size st (packNumber n size nu) cs ns cs′ ns′) where
-      pub corners-packed : cs′ ≡ newCorners t n p np (setOf n st)
+    module _ {cs′ ns′ : List ℕ} (P : Packed (d .cells) (d .cells + counts .made) (counts .removed) st (packNumber (d .cells) (counts .removed) nu) cs ns cs′ ns′) where
+      corners-packed : cs′ ≡ newCorners t (d .cells) (d .position) (d .points) (setOf (d .cells) st)
       unfolding newCorners corner
       corners-packed =
           table-after (corner t) (madeCorner t np) (t .corners) (P .corners₁) cs′ (P .moved .corners-long ∙ S .corners-long) (P .corners-zeroed)
@@ -242,7 +263,7 @@ module _ {t : Tables} {np n : ℕ} {p : Position} {st li : List ℕ} {size : ℕ
           (λ f j v k. P .moved .corners-moved (slotOf t n p s f) j (slot-below f v) (stays-new (slotOf t n p s f) (slot≥ t n p s f)) k ∙ S .corners-new f j v k)
           (λ q h. P .moved .corners-beyond q h ∙ S .corners-beyond q (omega (arith, B .counted)))
 
-      pub neighbours-packed : ns′ ≡ newNeighbours t n p (setOf n st)
+      neighbours-packed : ns′ ≡ newNeighbours t (d .cells) (d .position) (setOf (d .cells) st)
       unfolding newNeighbours
       neighbours-packed =
           table-after (λ c j. oldAcross t n p s (4 * c + j)) (madeAcross t n p s) (t .neighbours) (P .neighbours₁) ns′ (P .moved .neighbours-long ∙ S .neighbours-long) (P .neighbours-zeroed)
@@ -251,3 +272,8 @@ module _ {t : Tables} {np n : ℕ} {p : Position} {st li : List ℕ} {size : ℕ
           P .moved .neighbours-moved (slotOf t n p s f) j (slot-below f v) (stays-new (slotOf t n p s f) (slot≥ t n p s f)) k ∙
           (ap (renumbered N) (S .neighbours-new f j v k) ∙ made-right f j v k .is))
           (λ q h. P .moved .neighbours-beyond q h ∙ S .neighbours-beyond q (omega (arith, B .counted)))
+
+      pub star-packed : {ps : List ℕ} → ps ≡ newPoints (tables (t .points) [] []) (d .position) (d .points) →
+          tables ps cs′ ns′ ≡ star t (d .cells) (d .position) (d .points) (setOf (d .cells) st)
+      unfolding star newPoints
+      star-packed e i = tables (e i) (corners-packed i) (neighbours-packed i)

@@ -24,7 +24,7 @@ use Rattle.cavity.specs.Inner.{setOf, facesCode}
 use Rattle.cavity.proofs.Tests.{visible-of}
 use Rattle.star.specs.Turn.{State, inFace, outFace, turn}
 use Rattle.star.specs.Star.{madeCount, madeCorner, turnFace}
-use Rattle.star.specs.Inner.{marked, slotOf, numberOf, entryAt, numberAt, starSlot, slotAcross, nameBack, Building, Facing, NewCell, FaceDone, starred}
+use Rattle.star.specs.Inner.{bitSet, slotOf, numberOf, entryAt, numberAt, starSlot, slotAcross, nameBack, StarInProgress, VisibleFace, NewCell, FaceDone, starred}
 use Rattle.star.proofs.Cross.{Valid}
 use Rattle.star.proofs.Turn.{turn-valid, turn-ends}
 use Rattle.star.proofs.NewFaces.{visible-not-coplanar}
@@ -38,7 +38,7 @@ pub slot< : (t : Tables) (n : ℕ) (p : Position) (st : List ℕ) (f : ℕ) → 
 unfolding slotOf madeCount
 slot< t n p st f v = omega (arith, count-lt f (4 * n) (visible t p (setOf n st)) (visible< t n p st f v) v)
 
-module _ {n : ℕ} {st fa nu cs ns : List ℕ} (b : Building n st fa nu cs ns) where
+module _ {n : ℕ} {st fa nu cs ns : List ℕ} (b : StarInProgress n st fa nu cs ns) where
   abbrev t : Tables
   t = b .standing .was
 
@@ -55,8 +55,8 @@ module _ {n : ℕ} {st fa nu cs ns : List ℕ} (b : Building n st fa nu cs ns) w
     code-is : getD fa c 0 ≡ facesCode t p s c
     code-is = b .ready .inspected c c< (sym (set-at n st c c<) ∙ held)
 
-    pub bit-visible : marked (getD fa c 0) k ≡ visible (b .standing .was) (b .p) (setOf n st) (4 * c + k)
-    bit-visible = ap (λ x. marked x k) code-is ∙ code-bit t p s c k k<
+    pub bit-visible : bitSet (getD fa c 0) k ≡ visible (b .standing .was) (b .p) (setOf n st) (4 * c + k)
+    bit-visible = ap (λ x. bitSet x k) code-is ∙ code-bit t p s c k k<
 
     first-is : getD nu c 0 ≡ slotOf t n p s (4 * c)
     unfolding numberOf
@@ -66,7 +66,7 @@ module _ {n : ℕ} {st fa nu cs ns : List ℕ} (b : Building n st fa nu cs ns) w
     unfolding slotOf madeCount
     number≤ = omega (arith, first-is, count-mono (4 * c) (4 * n) (visible t p s) (omega (arith, c<)), b .ready .room, standing-room (b .standing) .cells≤)
 
-    pub number-slot : getD nu c 0 + countBelow k (marked (getD fa c 0)) ≡ slotOf (b .standing .was) n (b .p) (setOf n st) (4 * c + k)
+    pub number-slot : getD nu c 0 + countBelow k (bitSet (getD fa c 0)) ≡ slotOf (b .standing .was) n (b .p) (setOf n st) (4 * c + k)
     unfolding slotOf
     number-slot = omega (arith, first-is, count-cell t p s c k (omega arith) (getD fa c 0) code-is)
 
@@ -78,10 +78,10 @@ module _ {n : ℕ} {st fa nu cs ns : List ℕ} (b : Building n st fa nu cs ns) w
       where
         go : (visible t p s (4 * c + k) ≡ true) ⊎ (coplanar t p (4 * c + k) ≡ true) → numberAt fa nu c k ≡ starSlot t n p s (4 * c + k)
         go (inl v) = rw (bit-visible ∙ v, visible-not-coplanar t p s (4 * c + k) v) number-slot
-        go (inr d) = rw (bit-visible ∙ unseen d, d)
+        go (inr d) = rw (bit-visible ∙ not-visible d, d)
           where
-            unseen : coplanar t p (4 * c + k) ≡ true → visible t p s (4 * c + k) ≡ false
-            unseen d = by (split (visible t p s (4 * c + k)))
+            not-visible : coplanar t p (4 * c + k) ≡ true → visible t p s (4 * c + k) ≡ false
+            not-visible d = by (split (visible t p s (4 * c + k)))
               where
                 by : (visible t p s (4 * c + k) ≡ true) ⊎ (visible t p s (4 * c + k) ≡ false) → visible t p s (4 * c + k) ≡ false
                 by (inl v) = clash d (visible-not-coplanar t p s (4 * c + k) v)
@@ -90,25 +90,25 @@ module _ {n : ℕ} {st fa nu cs ns : List ℕ} (b : Building n st fa nu cs ns) w
     -- what the code's answer tells
     pub number-none : numberAt fa nu c k ≡ none → visible (b .standing .was) (b .p) (setOf n st) (4 * c + k) ≡ false
     unfolding numberAt
-    number-none e = go (split (marked (getD fa c 0) k))
+    number-none e = go (split (bitSet (getD fa c 0) k))
       where
-        go : (marked (getD fa c 0) k ≡ true) ⊎ (marked (getD fa c 0) k ≡ false) → visible t p s (4 * c + k) ≡ false
-        go (inl m) = absurd (omega (arith, rw m at e, number≤, count-le k (marked (getD fa c 0))))
+        go : (bitSet (getD fa c 0) k ≡ true) ⊎ (bitSet (getD fa c 0) k ≡ false) → visible t p s (4 * c + k) ≡ false
+        go (inl m) = absurd (omega (arith, rw m at e, number≤, count-le k (bitSet (getD fa c 0))))
         go (inr m) = sym bit-visible ∙ m
 
-    pub number-some : numberAt fa nu c k ≢ none → Facing n st fa c k
+    pub number-some : numberAt fa nu c k ≢ none → VisibleFace n st fa c k
     unfolding numberAt
-    number-some d = record { held = held; place< = k<; marks = go (split (marked (getD fa c 0) k)) }
+    number-some d = record { held = held; place< = k<; marks = go (split (bitSet (getD fa c 0) k)) }
       where
-        go : (marked (getD fa c 0) k ≡ true) ⊎ (marked (getD fa c 0) k ≡ false) → marked (getD fa c 0) k ≡ true
+        go : (bitSet (getD fa c 0) k ≡ true) ⊎ (bitSet (getD fa c 0) k ≡ false) → bitSet (getD fa c 0) k ≡ true
         go (inl m) = m
         go (inr m) = absurd (d (rw m))
 
-    pub number-marked : marked (getD fa c 0) k ≡ true → numberAt fa nu c k ≡ slotOf (b .standing .was) n (b .p) (setOf n st) (4 * c + k)
+    pub number-set : bitSet (getD fa c 0) k ≡ true → numberAt fa nu c k ≡ slotOf (b .standing .was) n (b .p) (setOf n st) (4 * c + k)
     unfolding numberAt
-    number-marked m = rw m number-slot
+    number-set m = rw m number-slot
 
-  pub facing : (c k : ℕ) → Facing n st fa c k → visible (b .standing .was) (b .p) (setOf n st) (4 * c + k) ≡ true
+  pub facing : (c k : ℕ) → VisibleFace n st fa c k → visible (b .standing .was) (b .p) (setOf n st) (4 * c + k) ≡ true
   facing c k F = sym (bit-visible c k (F .held) (F .place<)) ∙ F .marks
 
   -- where a turn from a visible face ends
@@ -117,7 +117,7 @@ module _ {n : ℕ} {st fa nu cs ns : List ℕ} (b : Building n st fa nu cs ns) w
     pub exit< : g .exit < 4
     pub is : numberAt fa nu (g .cell) (g .exit) ≡ slotAcross (b .standing .was) n (b .p) (setOf n st) (4 * c + k) j
 
-  pub reached : (c k j : ℕ) → Facing n st fa c k → j < 4 → j ≢ k → (g : State) →
+  pub reached : (c k j : ℕ) → VisibleFace n st fa c k → j < 4 → j ≢ k → (g : State) →
       g ≡ turn (corner (b .standing .was)) (across (b .standing .was)) (mate (b .standing .was)) (inSet (setOf n st)) n record { cell = c; entry = k; exit = j } →
       Reached c k j g
   unfolding slotAcross
@@ -171,7 +171,7 @@ module _ {n : ℕ} {st fa nu cs ns : List ℕ} (b : Building n st fa nu cs ns) w
 
   -- ---- a face is starred
 
-  module _ (c k : ℕ) (F : Facing n st fa c k) where
+  module _ (c k : ℕ) (F : VisibleFace n st fa c k) where
     abbrev f : ℕ
     f = 4 * c + k
 

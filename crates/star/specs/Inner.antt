@@ -11,19 +11,21 @@ use Rattle.geometry.specs.declared.Position.{Position}
 use Rattle.mesh.specs.declared.Cell.{Cell}
 use Rattle.mesh.specs.Tables.{Tables, pointCapacity, cellCapacity, none, cellOf, opposite, corner, across, mate, placeOf}
 use Rattle.mesh.specs.Mesh.{bit}
-use Rattle.mesh.specs.Inner.{withFour}
+use Rattle.mesh.specs.Inner.{withFour, SomeMesh}
 use Rattle.cavity.specs.Cavity.{inSet, coplanar, visible}
-use Rattle.cavity.specs.Starlike.{Starlike}
-use Rattle.cavity.specs.Inner.{MeshOf, inside, setOf, Listed, Inspected}
+use Rattle.cavity.specs.Inner.Star.{StarShaped}
+use Rattle.cavity.specs.Inner.{inside, setOf, Enumerated, Inspected}
+use Rattle.cavity.specs.declared.Node.{Node}
 use Rattle.star.specs.declared.Circulator.{Circulator}
+use Rattle.star.specs.declared.Replaced.{Replaced}
 use Rattle.star.specs.Turn.{State}
 use Rattle.star.specs.Star.{turnFace, keptNumber, madeCount, madeCorner}
 
 -- ---- numbers
 
 -- face k is visible, by its cell's code
-abbrev pub marked : ℕ → ℕ → Bool
-marked code k = eqb (bit code k) 1
+abbrev pub bitSet : ℕ → ℕ → Bool
+bitSet code k = eqb (bit code k) 1
 
 -- The number of face f's new cell until the tables are packed: new cells stand after the old ones, in their order.
 unfoldable pub slotOf : Tables → ℕ → Position → List Bool → ℕ → ℕ
@@ -46,10 +48,10 @@ abbrev pub stateOf : Circulator → State
 stateOf r = record { cell = r .cell; entry = r .entry; exit = r .exit }
 
 -- The mesh `was`, of which the lists cs and ns still have the cells of the cavity.
-pub record Standing (n : ℕ) (st cs ns : List ℕ) : Type 0 where
+pub record CavityIntact (n : ℕ) (st cs ns : List ℕ) : Type 0 where
   pub was : Tables
   pub np : ℕ
-  pub mesh : MeshOf was np n
+  pub mesh : SomeMesh was np n
   pub states : length st ≡ 4096
   pub corners-long : length cs ≡ length (was .corners)
   pub neighbours-long : length ns ≡ length (was .neighbours)
@@ -60,7 +62,7 @@ pub record Standing (n : ℕ) (st cs ns : List ℕ) : Type 0 where
 
 -- the number of a face's new cell, by its cell's code and first slot; none where the face is not visible
 unfoldable pub numberAt : List ℕ → List ℕ → ℕ → ℕ → ℕ
-numberAt fa nu c k = cond (marked (getD fa c 0) k) (getD nu c 0 + countBelow k (marked (getD fa c 0))) none
+numberAt fa nu c k = cond (bitSet (getD fa c 0) k) (getD nu c 0 + countBelow k (bitSet (getD fa c 0))) none
 
 -- across the faces of face f's new cell, by slots
 unfoldable pub starSlot : Tables → ℕ → Position → List Bool → ℕ → ℕ
@@ -75,8 +77,8 @@ pub record Lookup (nu : List ℕ) : Type 0 where
   pub last : getD nu 8191 0 ≡ none
 
 -- the cavity of p is inspected, the cells are numbered, and there is room for the new ones
-pub record Ready (t : Tables) (n : ℕ) (p : Position) (st fa nu : List ℕ) (capacity : ℕ) : Type 0 where
-  pub like : Starlike t n p (setOf n st)
+pub record Prepared (t : Tables) (n : ℕ) (p : Position) (st fa nu : List ℕ) (capacity : ℕ) : Type 0 where
+  pub like : StarShaped t n p (setOf n st)
   pub inspected : Inspected t n p (setOf n st) st fa
   pub numbered : Numbered t n p (setOf n st) nu
   pub codes : length fa ≡ 4096
@@ -84,16 +86,16 @@ pub record Ready (t : Tables) (n : ℕ) (p : Position) (st fa nu : List ℕ) (ca
   pub room : n + madeCount t n p (setOf n st) ≤ capacity
 
 -- the same of the mesh `was`, while the star is built
-pub record Building (n : ℕ) (st fa nu cs ns : List ℕ) : Type 0 where
-  pub standing : Standing n st cs ns
+pub record StarInProgress (n : ℕ) (st fa nu cs ns : List ℕ) : Type 0 where
+  pub standing : CavityIntact n st cs ns
   pub p : Position
-  pub ready : Ready (standing .was) n p st fa nu (cellCapacity (standing .was) (standing .mesh .w))
+  pub ready : Prepared (standing .was) n p st fa nu (cellCapacity (standing .was) (standing .mesh .w))
 
 -- face k of the cavity's cell c is visible
-pub record Facing (n : ℕ) (st fa : List ℕ) (c k : ℕ) : Type 0 where
+pub record VisibleFace (n : ℕ) (st fa : List ℕ) (c k : ℕ) : Type 0 where
   pub held : inSet (setOf n st) c ≡ true
   pub place< : k < 4
-  pub marks : marked (getD fa c 0) k ≡ true
+  pub marks : bitSet (getD fa c 0) k ≡ true
 
 -- the new cell of face f, by slots
 pub record NewCell (t : Tables) (n : ℕ) (p : Position) (v : ℕ) (s : List Bool) (f : ℕ) (cell : Cell) : Type 0 where
@@ -127,13 +129,13 @@ pub record Starred (t : Tables) (n : ℕ) (p : Position) (v : ℕ) (s : List Boo
   pub neighbours-new : (f j : ℕ) → D f ≡ true → j < 4 → entryAt ns (slotOf t n p s f) j ≡ slotAcross t n p s f j
   pub neighbours-beyond : (q : ℕ) → 4 * (n + madeCount t n p s) ≤ q → getD ns q 0 ≡ getD (t .neighbours) q 0
 
--- all that is asked of a cavity that is to be replaced
-pub record Replacing (t : Tables) (np n : ℕ) (p : Position) (st li : List ℕ) (size : ℕ) (fa nu : List ℕ) (made : ℕ) : Type 0 where
-  pub mesh : MeshOf t np n
-  pub ready : Ready t n p st fa nu (cellCapacity t (mesh .w))
-  pub listed : Listed n st li size
-  pub counted : made ≡ madeCount t n p (setOf n st)
-  pub next : np < pointCapacity t
+-- all that is asked of a node's cavity that is to be replaced
+pub record Replacing (t : Tables) (d : Node) (st li fa nu : List ℕ) (r : Replaced) : Type 0 where
+  pub mesh : SomeMesh t (d .points) (d .cells)
+  pub ready : Prepared t (d .cells) (d .position) st fa nu (cellCapacity t (mesh .w))
+  pub listed : Enumerated (d .cells) st li (r .removed)
+  pub counted : r .made ≡ madeCount t (d .cells) (d .position) (setOf (d .cells) st)
+  pub next : d .points < pointCapacity t
 
 -- ---- packing
 

@@ -1,0 +1,2 @@
+-- Condition 3 of acceptance.
+pub mod Calls

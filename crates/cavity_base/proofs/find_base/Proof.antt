@@ -1,0 +1,82 @@
+use Rattle.cavity_base.proofs.find_base.Statement.{statement}
+use Rattle.cavity_base.proofs.find_base.Tie as tie
+use Prim.Native.Nat.{_-_, _≤_}
+use mathlib.Core.Logic.{⊎-elim}
+use mathlib.Core.Path.{_≡_, sym, _∙_}
+use native.Mathlib.Omega.{arith}
+use Rattle.mesh.specs.Tables.{tables}
+use Rattle.locate.proofs.Codes.{coded, ruled-out}
+use Rattle.cavity.specs.Answers.{answersOf}
+use Rattle.cavity.specs.Inner.Growth.{Scanned}
+use Rattle.mesh.proofs.Reading.{has-corners, solid, cells-few}
+use Rattle.cavity.proofs.Visiting.{scan-start, scan-past, scanned-same, scan-ends}
+
+abbrev Inv-loop : tie.InvT-loop
+Inv-loop points corners neighbours answers node codes state₀ list₀ n g₀ c₀ state list g c = (c ≤ n) × Scanned (answersOf (node .handed) answers) (tables points corners neighbours) (node .position) n c state list g
+
+abbrev μ-loop : tie.MeasureT-loop
+μ-loop points corners neighbours answers node codes state₀ list₀ n g₀ c₀ state list g c = n - c
+
+loop-holds : tie.Need-loop-holds Inv-loop μ-loop
+loop-holds c = let s = c .before .before .before .before .before .before .before in (omega arith, scan-start (s .pre .0 .mesh) _ (s .pre .0 .position) _ (s .pre .2))
+
+abbrev start : tie.After-four-at Inv-loop μ-loop → tie.Start Inv-loop μ-loop
+start c = c .before .before .before .before .before .before .before .before .before .before
+
+four-at-requires : tie.Need-four-at-requires Inv-loop μ-loop
+four-at-requires c κs = let s = c .before .before .before .before .before .before .before .before .before in has-corners (s .pre .0 .mesh) _ (omega arith)
+
+shared-bits-requires : tie.Need-shared-bits-requires Inv-loop μ-loop
+shared-bits-requires c κs = let p = start c .pre in coded _ _ _ _ _ (solid (p .0 .mesh)) _ (omega arith) (p .1) (c .four-at .ensures) .code<
+
+try-base-requires : tie.Need-try-base-requires Inv-loop μ-loop
+try-base-requires c κs = let f = c .before .before .before .before in (start f .pre .0, omega arith, f .before .before .loop .inv .1)
+
+add-c : tie.Need-add-c Inv-loop μ-loop
+add-c c = omega (arith, cells-few (start (c .before .before) .pre .0 .mesh))
+
+loop-less : tie.Need-loop-less Inv-loop μ-loop
+loop-less c = omega arith
+
+-- a cell whose corners share a bit is passed over
+loop-again : tie.Need-loop-again Inv-loop μ-loop
+loop-again c =
+    let f = c .before .before in
+    let p = start f .pre in
+    let l = f .before .before .loop in (
+      omega arith,
+      ⊎-elim
+          (λ w. scanned-same (w .8) (w .9) (w .10) (w .3 .ensures))
+          (λ w. scanned-same (w .1) (w .2) (w .3) (scan-past (p .0 .mesh) _ (p .0 .position) (l .inv .1)
+          (ruled-out _ _ _ _ _ (solid (p .0 .mesh)) _ (omega arith) _ (p .1) (f .four-at .ensures) (λ z. w .0 .left (c .before .shared-bits .ensures ∙ z)))))
+          (c .if1 .came),
+    )
+
+same-length : tie.Need-same-length Inv-loop μ-loop
+same-length c = c .before .loop .inv .1 .growing .list .states ∙ sym (c .before .before .before .before .before .before .before .before .before .pre .2 .states)
+
+same-length-2 : tie.Need-same-length-2 Inv-loop μ-loop
+same-length-2 c = c .before .loop .inv .1 .growing .list .entries ∙ sym (c .before .before .before .before .before .before .before .before .before .pre .2 .entries)
+
+returns : tie.Need-returns Inv-loop μ-loop
+returns c =
+    let l = c .before .loop in
+    let e : l .c ≡ c .before .before .before .before .before .before .before .before .before .args .node .cells = omega arith in
+    scan-ends e (l .inv .1)
+
+pub find-base-spec : {M : Type 1} → statement M
+find-base-spec =
+    tie.close
+    (tie.spec
+    Inv-loop
+    μ-loop
+    loop-holds
+    four-at-requires
+    shared-bits-requires
+    try-base-requires
+    add-c
+    loop-less
+    loop-again
+    same-length
+    same-length-2
+    returns)

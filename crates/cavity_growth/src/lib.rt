@@ -1,0 +1,129 @@
+// The growth of a cavity from its base, by the cells' answers.
+
+ghost use mathlib.Core.Path.{_≡_};
+ghost use Prim.Native.Nat.{ℕ, _<_};
+ghost use lib.ListN.{getD};
+ghost use Rattle.mesh.specs.Tables.{tablesIn, tablesBefore};
+ghost use Rattle.cavity.specs.Answers.{answersOf, saysYes};
+ghost use Rattle.cavity.specs.Cavity.{cavityOf};
+ghost use Rattle.cavity.specs.Inner.{Answerable, setOf};
+ghost use Rattle.cavity.specs.Inner.Growth.{Reached, Grew, Neighbour, InsideIfYes};
+use cavity::Gathered;
+use cavity::Node;
+use cavity_base::answer_of;
+use cavity_base::join;
+use mesh_tables::four_at;
+
+// What lies across a face joins if it is a cell, is not in yet, and its answer is yes.
+fn visit(
+    points: &[u32],
+    corners: &[u16],
+    neighbours: &[u16],
+    answers: &[u8],
+    node: Node,
+    d: u16,
+    state: &mut [u8],
+    list: &mut [u16],
+    g: Gathered,
+) -> Gathered
+    requires { ⌜ Answerable (tablesIn points corners neighbours) (now answers) node
+        × Reached (answersOf (node .handed) (now answers)) (tablesIn points corners neighbours) (node .position) (node .cells) (now state) (now list) g
+        × Neighbour (answersOf (node .handed) (now answers)) (tablesIn points corners neighbours) (node .position) (node .cells) d ⌝ }
+    ensures { λ r. ⌜ Reached (answersOf (node .handed) (now (answers .entry))) (tablesBefore points corners neighbours)
+        (node .position) (node .cells) (now (state .exit)) (now (list .exit)) r
+        × Grew (node .cells) (now (state .entry)) (now (list .entry)) (g .size) (now (state .exit)) (now (list .exit)) (r .size)
+        × InsideIfYes (answersOf (node .handed) (now (answers .entry))) (tablesBefore points corners neighbours)
+        (node .position) (now (state .exit)) d ⌝ }
+{
+    if d == 65535 {
+        return g;
+    }
+    let c = d as usize;
+    if state[c] != 0 {
+        return g;
+    }
+    let a = answer_of(points, corners, neighbours, answers, node, c);
+    let yes = a.yes;
+    if !yes {
+        return g;
+    }
+    join(state, list, g, c, a.t, 1)
+}
+
+// The four neighbours u of a cell.
+fn visit_all(
+    points: &[u32],
+    corners: &[u16],
+    neighbours: &[u16],
+    answers: &[u8],
+    node: Node,
+    u: [u16; 4],
+    state: &mut [u8],
+    list: &mut [u16],
+    start: Gathered,
+) -> Gathered
+    requires { ⌜ Answerable (tablesIn points corners neighbours) (now answers) node
+        × Reached (answersOf (node .handed) (now answers)) (tablesIn points corners neighbours) (node .position) (node .cells) (now state) (now list) start
+        × ((j : ℕ) → j < 4 → Neighbour (answersOf (node .handed) (now answers)) (tablesIn points corners neighbours) (node .position) (node .cells) (getD u j 0)) ⌝ }
+    ensures { λ r. ⌜ Reached (answersOf (node .handed) (now (answers .entry))) (tablesBefore points corners neighbours)
+        (node .position) (node .cells) (now (state .exit)) (now (list .exit)) r
+        × Grew (node .cells) (now (state .entry)) (now (list .entry)) (start .size) (now (state .exit)) (now (list .exit)) (r .size)
+        × ((j : ℕ) → j < 4 → InsideIfYes (answersOf (node .handed) (now (answers .entry))) (tablesBefore points corners neighbours)
+        (node .position) (now (state .exit)) (getD u j 0)) ⌝ }
+{
+    let mut g = start;
+    let mut j: usize = 0;
+    while j < 4 {
+        g = visit(
+            points,
+            corners,
+            neighbours,
+            answers,
+            node,
+            u[j],
+            state,
+            list,
+            g,
+        );
+        j += 1;
+    }
+    g
+}
+
+// The cavity: 'again and again each neighbour .. whose answer is yes', from the list of those that are in.
+pub fn grow(
+    points: &[u32],
+    corners: &[u16],
+    neighbours: &[u16],
+    answers: &[u8],
+    node: Node,
+    state: &mut [u8],
+    list: &mut [u16],
+    start: Gathered,
+) -> Gathered
+    requires { ⌜ Answerable (tablesIn points corners neighbours) (now answers) node
+        × Reached (answersOf (node .handed) (now answers)) (tablesIn points corners neighbours) (node .position) (node .cells) (now state) (now list) start ⌝ }
+    ensures { λ r. ⌜ Reached (answersOf (node .handed) (now (answers .entry))) (tablesBefore points corners neighbours)
+        (node .position) (node .cells) (now (state .exit)) (now (list .exit)) r
+        × (setOf (node .cells) (now (state .exit)) ≡ cavityOf (tablesBefore points corners neighbours) (node .cells) (node .position)
+        (saysYes (answersOf (node .handed) (now (answers .entry))) (tablesBefore points corners neighbours) (node .position))) ⌝ }
+{
+    let mut g = start;
+    let mut h: usize = 0;
+    while h < g.size {
+        let c = list[h] as usize;
+        g = visit_all(
+            points,
+            corners,
+            neighbours,
+            answers,
+            node,
+            four_at(neighbours, c),
+            state,
+            list,
+            g,
+        );
+        h += 1;
+    }
+    g
+}

@@ -1,0 +1,20 @@
+use borrow.Author.Needs.{needs}
+use Rattle.gantry.proofs.gantry_sphere_test.Statement.{statement}
+use Rattle.gantry.proofs.gantry_sphere_test.Tie as tie
+use mathlib.Core.Path.{ap, _∙_}
+use Rattle.gantry_numbers.specs.Numbers.{testedOf}
+use Rattle.gantry.proofs.Handing.{agrees}
+
+sphere-test-requires : tie.Need-sphere-test-requires
+sphere-test-requires c κs = search needs
+
+tested-requires : tie.Need-tested-requires
+tested-requires c κs = search needs
+
+returns : tie.Need-returns
+returns c =
+    let s = c .before .sphere-test .ensures in
+    (c .tested .ensures ∙ ap testedOf (s .0), agrees _ _ _ _ _ (s .0) (s .1) (c .tested .ensures))
+
+pub gantry-sphere-test-spec : {M : Type 1} → statement M
+gantry-sphere-test-spec = tie.close (tie.spec sphere-test-requires tested-requires returns)

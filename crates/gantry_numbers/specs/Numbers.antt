@@ -1,0 +1,87 @@
+-- The numbers of the C interface (include/gantry.h): what C is given for each case of an answer. The refusal is 0 where the call was
+-- accepted, and a field that a refusal leaves without meaning is 0.
+use Rattle.insphere.specs.declared.Sphere.{Sphere}
+use Rattle.insphere.specs.declared.Sphere.the-variants.{Inside, Outside, Close}
+use Rattle.insphere.specs.declared.Tested.{Tested}
+use Rattle.insphere.specs.declared.Tested.the-variants.{Answered, Refused as TestRefused}
+use Rattle.insphere.specs.Sphere.{zeroFloat}
+use Rattle.mesh.specs.declared.Mesh.{Mesh}
+use Rattle.mesh.specs.declared.Started.{Started}
+use Rattle.mesh.specs.declared.Started.the-variants.{Accepted as StartAccepted, Refused as StartRefused}
+use Rattle.locate.specs.declared.Located.{Located}
+use Rattle.locate.specs.declared.Located.the-variants.{Cell, Refused as LocateRefused}
+use Rattle.insertion.specs.declared.Inserted.{Inserted}
+use Rattle.insertion.specs.declared.Inserted.the-variants.{Accepted, Refused}
+use Rattle.insertion.specs.declared.Listed.{Listed}
+use Rattle.insertion.specs.declared.Listed.the-variants.{Ended, Stopped, Refused as ListRefused}
+use Rattle.nodefile.specs.declared.Read.{Read}
+use Rattle.nodefile.specs.declared.Read.the-variants.{Nodes, Refused as ReadRefused}
+use Rattle.nodefile.specs.declared.Written.{Written}
+use Rattle.nodefile.specs.declared.Written.the-variants.{Bytes, Refused as WriteRefused}
+use Rattle.gantry_numbers.specs.declared.GantryMesh.{GantryMesh}
+use Rattle.gantry_numbers.specs.declared.GantryStarted.{GantryStarted}
+use Rattle.gantry_numbers.specs.declared.GantryInserted.{GantryInserted}
+use Rattle.gantry_numbers.specs.declared.GantryListed.{GantryListed}
+use Rattle.gantry_numbers.specs.declared.GantryLocated.{GantryLocated}
+use Rattle.gantry_numbers.specs.declared.GantrySphere.{GantrySphere}
+use Rattle.gantry_numbers.specs.declared.GantryRead.{GantryRead}
+use Rattle.gantry_numbers.specs.declared.GantryWritten.{GantryWritten}
+
+-- the record that C hands in
+abbrev pub meshFromC : GantryMesh → Mesh
+meshFromC m = record { x = m .x; y = m .y; z = m .z; points = m .points; cells = m .cells }
+
+-- and the one that it gets back
+abbrev pub meshToC : Mesh → GantryMesh
+meshToC m = record { x = m .x; y = m .y; z = m .z; points = m .points; cells = m .cells }
+
+-- of a refused start, since no record goes in
+abbrev pub noMesh : GantryMesh
+noMesh = record { x = 0; y = 0; z = 0; points = 0; cells = 0 }
+
+unfoldable pub startedOf : Started → GantryStarted
+startedOf (StartAccepted m) = record { refusal = 0; mesh = meshToC m }
+startedOf (StartRefused e) = record { refusal = e; mesh = noMesh }
+
+-- of a call that was handed the record m, which a refusal leaves as it was
+unfoldable pub insertedOf : GantryMesh → Inserted → GantryInserted
+insertedOf m (Accepted m′ r) =
+    record {
+      refusal = 0;
+      mesh = meshToC m′;
+      point = r .point;
+      before = r .before;
+      after = r .after;
+      made = r .made;
+      least = r .least;
+    }
+insertedOf m (Refused e) =
+    record { refusal = e; mesh = m; point = 0; before = 0; after = 0; made = 0; least = zeroFloat }
+
+-- the place is that of the refused node, or how many went in; a stopped list has the record that its last accepted node left
+unfoldable pub listedOf : GantryMesh → Listed → GantryListed
+listedOf m (Ended m′ count) = record { refusal = 0; mesh = meshToC m′; place = count }
+listedOf m (Stopped m′ place e) = record { refusal = e; mesh = meshToC m′; place = place }
+listedOf m (ListRefused e) = record { refusal = e; mesh = m; place = 0 }
+
+unfoldable pub locatedOf : Located → GantryLocated
+locatedOf (Cell c) = record { refusal = 0; cell = c }
+locatedOf (LocateRefused e) = record { refusal = e; cell = 0 }
+
+-- 1 inside, 2 outside, 3 close
+unfoldable pub sphereOf : Sphere → GantrySphere
+sphereOf (Inside t) = record { refusal = 0; answer = 1; t = t }
+sphereOf (Outside t) = record { refusal = 0; answer = 2; t = t }
+sphereOf (Close t) = record { refusal = 0; answer = 3; t = t }
+
+unfoldable pub testedOf : Tested → GantrySphere
+testedOf (Answered s) = sphereOf s
+testedOf (TestRefused e) = record { refusal = e; answer = 0; t = zeroFloat }
+
+unfoldable pub readOf : Read → GantryRead
+readOf (Nodes h) = record { refusal = 0; x = h .x; y = h .y; z = h .z; count = h .count }
+readOf (ReadRefused e) = record { refusal = e; x = 0; y = 0; z = 0; count = 0 }
+
+unfoldable pub writtenOf : Written → GantryWritten
+writtenOf (Bytes count) = record { refusal = 0; bytes = count }
+writtenOf (WriteRefused e) = record { refusal = e; bytes = 0 }

@@ -1,0 +1,73 @@
+use Rattle.insertion.proofs.Admission.{placed-points, points-same, refused-early, admitted, answerable, node-cells≤, unheld-node, last-test}
+use borrow.Author.Needs.{needs}
+use Rattle.insertion_find.proofs.find.Statement.{statement}
+use Rattle.insertion_find.proofs.find.Tie as tie
+
+side-codes-requires : tie.Need-side-codes-requires
+side-codes-requires c κs = placed-points (c .before .before .before .before .before .before .before .before .before .pre .0)
+
+slice-aggregate-point-tests : tie.Need-slice-aggregate-point-tests
+slice-aggregate-point-tests c = search needs
+
+point-tests-requires : tie.Need-point-tests-requires
+point-tests-requires c κs = points-same (c .before .before .before .before .before .before .before .before .before .before .before .pre .0) (c .before .side-codes .ensures)
+
+returns : tie.Need-returns
+returns c = refused-early (c .before .before .before .before .before .before .before .before .before .before .before .before .before .pre .0) (c .before .point-tests .ensures _ _) (c .if1 .taken)
+
+slice-aggregate-find-cavity : tie.Need-slice-aggregate-find-cavity
+slice-aggregate-find-cavity c = search needs
+
+find-cavity-requires : tie.Need-find-cavity-requires
+find-cavity-requires c κs = (answerable (admitted (c .before .before .before .before .before .before .before .before .before .before .before .before .before .before .before .before .before .pre .0) (c .before .before .before .before .before .point-tests .ensures _ _) (c .before .before .before .before .if1 .left)), c .before .before .before .before .before .before .before .side-codes .ensures, c .before .before .before .before .before .before .before .before .before .before .before .before .before .before .before .before .before .pre .1, c .before .before .before .before .before .before .before .before .before .before .before .before .before .before .before .before .before .pre .2)
+
+same-length : tie.Need-same-length
+same-length c = search needs
+
+same-length-2 : tie.Need-same-length-2
+same-length-2 c = search needs
+
+same-length-3 : tie.Need-same-length-3
+same-length-3 c = search needs
+
+returns-2 : tie.Need-returns-2
+returns-2 c = unheld-node (admitted (c .before .before .before .before .before .before .before .before .before .before .before .before .before .before .before .before .before .before .before .before .before .before .before .before .before .before .pre .0) (c .before .before .before .before .before .before .before .before .before .before .before .before .before .before .point-tests .ensures _ _) (c .before .before .before .before .before .before .before .before .before .before .before .before .before .if1 .left)) (c .before .before .before .before .before .before .before .before .find-cavity .ensures) (c .if2 .taken)
+
+star-room-requires : tie.Need-star-room-requires
+star-room-requires c κs = (node-cells≤ (c .before .before .before .before .before .before .before .before .before .before .before .before .before .before .before .before .before .before .before .before .before .before .before .before .before .before .before .before .before .pre .0), c .before .before .before .before .before .before .before .before .before .before .before .find-cavity .ensures .states, c .before .before .before .before .before .before .before .before .before .before .before .find-cavity .ensures .codes, c .before .before .before .before .before .before .before .before .before .before .before .before .before .before .before .before .before .before .before .before .before .before .before .before .before .before .before .before .before .pre .3, c .before .before .before .before .before .before .before .before .before .before .before .find-cavity .ensures .coded (c .before .before .before .if2 .left))
+
+same-length-4 : tie.Need-same-length-4
+same-length-4 c = search needs
+
+same-length-5 : tie.Need-same-length-5
+same-length-5 c = search needs
+
+same-length-6 : tie.Need-same-length-6
+same-length-6 c = search needs
+
+same-length-7 : tie.Need-same-length-7
+same-length-7 c = search needs
+
+returns-3 : tie.Need-returns-3
+returns-3 c = last-test (admitted (c .before .before .before .before .before .before .before .before .before .before .before .before .before .before .before .before .before .before .before .before .before .before .before .before .before .before .before .before .before .before .before .before .pre .0) (c .before .before .before .before .before .before .before .before .before .before .before .before .before .before .before .before .before .before .before .before .point-tests .ensures _ _) (c .before .before .before .before .before .before .before .before .before .before .before .before .before .before .before .before .before .before .before .if1 .left)) (c .before .before .before .before .before .before .before .before .before .before .before .before .before .before .find-cavity .ensures) (c .before .before .before .before .before .before .if2 .left) (c .before .before .star-room .ensures .0) (c .before .before .star-room .ensures .1) (c .before .before .star-room .ensures .2)
+
+pub find-spec : {M : Type 1} → statement M
+find-spec =
+    tie.close
+    (tie.spec
+    side-codes-requires
+    slice-aggregate-point-tests
+    point-tests-requires
+    returns
+    slice-aggregate-find-cavity
+    find-cavity-requires
+    same-length
+    same-length-2
+    same-length-3
+    returns-2
+    star-room-requires
+    same-length-4
+    same-length-5
+    same-length-6
+    same-length-7
+    returns-3)

@@ -1,0 +1,30 @@
+use mathlib.Core.Path.{refl}
+use Rattle.insertion.specs.Inner.{acceptedWith}
+use borrow.Author.Needs.{needs}
+use Rattle.insertion_report.proofs.accepted.Statement.{statement}
+use Rattle.insertion_report.proofs.accepted.Tie as tie
+
+cast-after : tie.Need-cast-after
+cast-after c = search needs
+
+cast-made : tie.Need-cast-made
+cast-made c = search needs
+
+add-t6 : tie.Need-add-t6
+add-t6 c = search needs
+
+sub-t7 : tie.Need-sub-t7
+sub-t7 c = search needs
+
+add-t8 : tie.Need-add-t8
+add-t8 c = search needs
+
+cast-t10 : tie.Need-cast-t10
+cast-t10 c = search needs
+
+returns : tie.Need-returns
+unfolding acceptedWith
+returns c = refl
+
+pub accepted-spec : {M : Type 1} → statement M
+accepted-spec = tie.close (tie.spec cast-after cast-made add-t6 sub-t7 add-t8 cast-t10 returns)

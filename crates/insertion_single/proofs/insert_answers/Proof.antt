@@ -1,0 +1,73 @@
+use borrow.Author.Needs.{needs}
+use Rattle.insertion_single.proofs.insert_answers.Statement.{statement}
+use Rattle.insertion_single.proofs.insert_answers.Tie as tie
+use Rattle.cavity.specs.Answers.{handed}
+use Rattle.insertion.specs.Insertion.{fewerBytes}
+use Rattle.insertion.proofs.Leaving.{refused-at, passed-at, answered-at, node-at}
+
+clear-requires : tie.Need-clear-requires
+clear-requires c κs = search needs
+
+cast-fewer : tie.Need-cast-fewer
+cast-fewer c = search needs
+
+mesh-refusal-requires : tie.Need-mesh-refusal-requires
+mesh-refusal-requires c κs = search needs
+
+same-length : tie.Need-same-length
+same-length c = search needs
+
+same-length-2 : tie.Need-same-length-2
+same-length-2 c = search needs
+
+same-length-3 : tie.Need-same-length-3
+same-length-3 c = search needs
+
+same-length-4 : tie.Need-same-length-4
+same-length-4 c = search needs
+
+returns : tie.Need-returns
+unfolding fewerBytes
+returns c = let s = c .before .before .before .before .before .before .before .before .before .before .before .before .before .before .before in refused-at _ _ _ (c .before .before .before .before .before .before .before .before .clear .ensures) _ (handed (s .args .answers .now)) (c .before .mesh-refusal .ensures) (c .if1 .taken)
+
+insert-node-requires : tie.Need-insert-node-requires
+insert-node-requires c κs =
+    let s = c .before .before .before .before .before .before .before .before .before .before .before .before .before .before .before .before .before .before in (
+      passed-at _ _ _ _ (c .before .before .before .before .mesh-refusal .ensures) (c .before .before .before .if1 .left),
+      λ e. answered-at _ _ _ (s .args .answers .now) (c .before .before .before .before .mesh-refusal .ensures) (c .before .before .before .if1 .left),
+    )
+
+same-length-5 : tie.Need-same-length-5
+same-length-5 c = search needs
+
+same-length-6 : tie.Need-same-length-6
+same-length-6 c = search needs
+
+same-length-7 : tie.Need-same-length-7
+same-length-7 c = search needs
+
+same-length-8 : tie.Need-same-length-8
+same-length-8 c = search needs
+
+returns-2 : tie.Need-returns-2
+unfolding fewerBytes
+returns-2 c = let s = c .before .before .before .before .before .before .before .before .before .before .before .before .before .before .before .before .before .before .before .before .before .before .before .before .before in node-at _ _ _ (c .before .before .before .before .before .before .before .before .before .before .before .before .before .before .before .before .before .before .clear .ensures) _ (handed (s .args .answers .now)) (c .before .before .before .before .before .before .before .before .before .before .before .mesh-refusal .ensures) (c .before .before .before .before .before .before .before .before .before .before .if1 .left) (c .before .before .before .before .before .before .insert-node .ensures .leaves)
+
+pub insert-answers-spec : {M : Type 1} → statement M
+insert-answers-spec =
+    tie.close
+    (tie.spec
+    clear-requires
+    cast-fewer
+    mesh-refusal-requires
+    same-length
+    same-length-2
+    same-length-3
+    same-length-4
+    returns
+    insert-node-requires
+    same-length-5
+    same-length-6
+    same-length-7
+    same-length-8
+    returns-2)

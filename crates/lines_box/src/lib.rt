@@ -1,0 +1,93 @@
+// The listing of a file, with the tables lent.
+
+ghost use Prim.Native.Nat.{_≤_};
+ghost use lib.ListN.{length};
+ghost use Rattle.mesh.specs.Tables.{tablesIn, tablesBefore};
+ghost use Rattle.nodefile.specs.Read.{nodes as fileNodes, readAnswer};
+ghost use Rattle.lines.specs.Listing.{nodesText, boxText, readText};
+ghost use Rattle.lines.specs.Inner.{Wrote, FromStart, longest};
+use insertion_list::insert_list;
+use lines_listed::write_listed;
+use lines_listed::write_refused;
+use mesh::Mesh;
+use mesh::Started;
+use mesh_start::start;
+use nodefile::Read;
+use nodefile_read::read_nodes;
+
+// The listing of a started box with these nodes.
+fn list_started(
+    mesh: Mesh,
+    points: &mut [u32],
+    corners: &mut [u16],
+    neighbours: &mut [u16],
+    work: &mut [u16],
+    nodes: &[u32],
+    out: &mut [u8],
+) -> usize
+    requires { ⌜ FromStart mesh (tablesIn points corners neighbours) × (longest ≤ length (now out)) ⌝ }
+    ensures { λ r. ⌜ Wrote (nodesText mesh (tablesBefore points corners neighbours) (length (now (work .entry))) (now (nodes .entry)))
+        (now (out .entry)) 0 r (now (out .exit)) ⌝ }
+{
+    let answer = insert_list(mesh, points, corners, neighbours, work, nodes);
+    write_listed(answer, corners, neighbours, out)
+}
+
+// The listing of a box with these nodes.
+fn list_nodes(
+    x: u32,
+    y: u32,
+    z: u32,
+    points: &mut [u32],
+    corners: &mut [u16],
+    neighbours: &mut [u16],
+    work: &mut [u16],
+    nodes: &[u32],
+    out: &mut [u8],
+) -> usize
+    requires { ⌜ longest ≤ length (now out) ⌝ }
+    ensures { λ r. ⌜ Wrote (boxText x y z (tablesBefore points corners neighbours) (length (now (work .entry))) (now (nodes .entry)))
+        (now (out .entry)) 0 r (now (out .exit)) ⌝ }
+{
+    let answer = start(x, y, z, points, corners, neighbours, work);
+    match answer {
+        Started::Accepted(mesh) => {
+            list_started(mesh, points, corners, neighbours, work, nodes, out)
+        }
+        Started::Refused(number) => write_refused(number, out),
+    }
+}
+
+// The listing of a file, with the tables and the nodes' place lent.
+pub fn list_file(
+    file: &[u8],
+    points: &mut [u32],
+    corners: &mut [u16],
+    neighbours: &mut [u16],
+    work: &mut [u16],
+    nodes: &mut [u32],
+    out: &mut [u8],
+) -> usize
+    requires { ⌜ longest ≤ length (now out) ⌝ }
+    ensures { λ r. ⌜ Wrote (readText (readAnswer (now (file .entry)) (length (now (nodes .entry)))) (tablesBefore points corners neighbours) (length (now (work .entry))) (fileNodes (now (file .entry))))
+        (now (out .entry)) 0 r (now (out .exit)) ⌝ }
+{
+    let answer = read_nodes(file, nodes);
+    match answer {
+        Read::Nodes(header) => {
+            let end = 3 * header.count as usize;
+            list_nodes(
+                header.x,
+                header.y,
+                header.z,
+                points,
+                corners,
+                neighbours,
+                work,
+                &nodes[..end],
+                out,
+            )
+        }
+        Read::Refused(number) => write_refused(number, out),
+    }
+}

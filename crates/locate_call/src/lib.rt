@@ -1,0 +1,67 @@
+// Locating a position: the lowest-numbered cell that holds it.
+
+ghost use mathlib.Core.List.{[]};
+ghost use mathlib.Core.Path.{_≡_};
+ghost use lib.ListN.{length};
+ghost use Rattle.arith.specs.Table.{firstBelow};
+ghost use Rattle.geometry.specs.Volume.{InRange};
+ghost use Rattle.mesh.specs.Tables.{tables, tablesBefore, cleared};
+ghost use Rattle.mesh.specs.Inner.{Solid};
+ghost use Rattle.locate.specs.Locate.{holds, locateCall};
+use geometry::Position;
+use geometry::volume::in_box;
+use locate::Located;
+use locate_holding::cell_holds;
+use locate_holding::shared_bits;
+use locate_holding::side_codes;
+use mesh::Mesh;
+use mesh_check::mesh_refusal;
+use mesh_tables::clear;
+use mesh_tables::four_at;
+
+// The lowest-numbered cell that holds q; the cell count where none does.
+fn first_holder(points: &[u32], corners: &[u16], np: usize, n: usize, q: Position) -> usize
+    requires { ⌜ Solid (now points) (now corners) np n × InRange q ⌝ }
+    ensures { λ r. ⌜ r ≡ firstBelow n (holds (tables (now (points .entry)) (now (corners .entry)) []) q) ⌝ }
+{
+    let codes = side_codes(points, np, q);
+    let mut c: usize = 0;
+    while c < n {
+        let k = four_at(corners, c);
+        if shared_bits(&codes, k) == 0 {
+            if cell_holds(points, k, q) {
+                return c;
+            }
+        }
+        c += 1;
+    }
+    n
+}
+
+// The lowest-numbered cell that holds the position.
+pub fn locate(
+    mesh: Mesh,
+    points: &[u32],
+    corners: &[u16],
+    neighbours: &[u16],
+    work: &mut [u16],
+    q: Position,
+) -> Located
+    ensures { λ r. ⌜ (r ≡ locateCall mesh (tablesBefore points corners neighbours) (length (now (work .entry))) q)
+        × (now (work .exit) ≡ cleared (now (work .entry))) ⌝ }
+{
+    clear(work);
+    let refusal = mesh_refusal(mesh, points, corners, neighbours, work.len(), false);
+    if refusal != 0 {
+        return Located::Refused(refusal);
+    }
+    if !in_box(mesh.x, mesh.y, mesh.z, q) {
+        return Located::Refused(4);
+    }
+    let n = mesh.cells as usize;
+    let c = first_holder(points, corners, mesh.points as usize, n, q);
+    if c == n {
+        return Located::Refused(7);
+    }
+    Located::Cell(c as u32)
+}

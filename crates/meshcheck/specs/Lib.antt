@@ -1,2 +1,0 @@
-pub mod Refusal
-pub mod Inner

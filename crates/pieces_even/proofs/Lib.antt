@@ -1,0 +1,2 @@
+-- The two even nodes.
+pub mod Even

@@ -1,0 +1,2 @@
+-- Each wrong way leaves another cavity.
+pub mod Differing
