@@ -1,12 +1,14 @@
 #!/usr/bin/env bash
 # The checks of rust/ over the archive, a line a step; what a failed step printed comes before its line. Status 0 only where all
-# are ok. Before: rt staticlib gantry. GANTRY_ARCHIVE_DIR names another directory with libgantry.a, GANTRY_INCLUDE_DIR with gantry.h.
+# are ok. Before: rt staticlib gantry. Archive, header and target directory are the repository's own, whatever the environment says.
 set -uo pipefail
 cd "$(dirname "$0")" || exit 1
-archive_dir=${GANTRY_ARCHIVE_DIR:-$PWD/../target/staticlib}
-include_dir=${GANTRY_INCLUDE_DIR:-$PWD/../include}
-compare=${CARGO_TARGET_DIR:-target}/release/compare
-replay=${CARGO_TARGET_DIR:-target}/release/replay
+. ../.ci/environment || exit 1
+include=../include
+archive=../target/staticlib/libgantry.a
+compare=target/release/compare
+replay=target/release/replay
+strict=(-Wall -Wextra -pedantic -Werror -fsyntax-only)
 log=$(mktemp)
 trap 'rm -f "$log"' EXIT
 failed=0
@@ -23,9 +25,39 @@ step() {
     fi
 }
 
-# The archive and a plain build made wrong: the comparison must end with status 1 and name a difference.
+header() {
+    local standard
+    for standard in c99 c11; do
+        cc -std=$standard "${strict[@]}" -x c $include/gantry.h || return 1
+    done
+    for standard in c++11 c++17; do
+        c++ -std=$standard "${strict[@]}" -x c++ $include/gantry.h || return 1
+    done
+}
+
+layouts() {
+    cc -std=c11 "${strict[@]}" -I $include gantry/tests/layout.c &&
+        c++ -std=c++17 "${strict[@]}" -I $include -x c++ gantry/tests/layout.c
+}
+
+# has COMMAND: a check whose tool is missing must not pass
+has() {
+    cargo "$1" --version && return
+    echo "cargo $1 is not installed, and the check needs it"
+    return 1
+}
+
+format() {
+    has fmt && cargo fmt --check
+}
+
+lints() {
+    has clippy && cargo clippy --offline --quiet --release --workspace --all-targets -- -D warnings
+}
+
+# The archive and a wrong build: the comparison must end with status 1 and name a difference.
 finds() {
-    "$compare" --build archive --fault "$1"
+    "$compare" --left "$1" --right archive
     [ $? -eq 1 ] && grep -q '^difference: ' "$log"
 }
 
@@ -38,22 +70,27 @@ separates() {
     [ "$wrong" != "$(cat "$history.txt")" ]
 }
 
-if [ ! -f "$archive_dir/libgantry.a" ]; then
-    echo "rust: no $archive_dir/libgantry.a: build it with 'rt staticlib gantry'"
+if [ ! -f $archive ]; then
+    echo "rust: no $archive: build it with 'rt staticlib gantry'"
     exit 1
 fi
 
-step "layouts of gantry.h" cc -std=c11 -Wall -Wextra -Werror -fsyntax-only -I "$include_dir" gantry/tests/layout.c
-cargo fmt --version > "$log" 2>&1 && step "format" cargo fmt --check
+step "gantry.h as C99, C11, C++11 and C++17" header
+step "layouts of gantry.h, as C11 and C++17" layouts
+step "format" format
 step "build without the archive" env GANTRY_ARCHIVE_DIR=/nowhere cargo check --offline --quiet --release --all-targets
-cargo clippy --version > "$log" 2>&1 && step "lints" cargo clippy --offline --quiet --release --workspace --all-targets -- -D warnings
+step "lints" lints
 step "build" cargo build --offline --quiet --release --workspace
 step "tests" cargo test --offline --quiet --release --workspace
 for seed in 1 2 3 4; do
-    step "plain and archive, 100,000 calls from seed $seed" "$compare" --build archive --seed "$seed" --calls 100000
+    step "plain and archive, 100,000 calls from seed $seed, every refusal" \
+        "$compare" --left plain --right archive --seed "$seed" --calls 100000 --all-refusals
 done
-for fault in zero-visible visibility-only lost-corners-only coplanar-keeps one-round one-at-a-time; do
-    step "history of $fault" separates "$fault"
-    step "fault $fault is found" finds "$fault"
+# How often each call gave each answer, from the last seed.
+[ "$failed" -ne 0 ] || sed 1d "$log"
+for history in ../examples/histories/*.calls; do
+    wrong=$(basename "$history" .calls)
+    step "history of $wrong" separates "$wrong"
+    step "wrong build $wrong is found" finds "$wrong"
 done
 exit "$failed"

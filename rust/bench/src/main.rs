@@ -8,7 +8,6 @@ use std::hint::black_box;
 use std::process::ExitCode;
 
 use compare::{Archive, Builder, Plain, Tuned};
-use plain::Fault;
 use timing::Timed;
 use work::{Work, ENTRIES};
 
@@ -17,7 +16,7 @@ const USAGE: &str = "usage: bench [ROUNDS]                  times of all builds 
        bench works                    the works: name, unit, units a pass, passes to count, bar, title
 BUILD is plain, tuned or archive.";
 
-const PLAIN: Plain = Plain(Fault::None);
+const PLAIN: Plain = Plain::RIGHT;
 
 fn build(name: &str) -> Option<&'static dyn Builder> {
     match name {

@@ -1,9 +1,13 @@
 //! One call with all that it is lent, and what it leaves.
 
-use plain::{Answers, Inserted, Listed, Located, Mesh, Position, Read, Sphere, Started, Written};
+use plain::{
+    Answers, Inserted, Listed, Located, Mesh, Position, Read, Sphere, Started, Written,
+    OUT_OF_RANGE,
+};
 
 use crate::builders::Builder;
 use crate::guarded::{Guarded, GuardedTables};
+use crate::tally::{ACCEPTED, NO};
 
 #[derive(Clone, Debug)]
 pub enum Call {
@@ -48,6 +52,21 @@ impl Answer {
         self == other && self.float_bits() == other.float_bits()
     }
 
+    /// 0 for accepted, or a refusal's number; `NO` for the mesh check's no and the volume's none.
+    pub fn outcome(self) -> u8 {
+        match self {
+            Answer::Volume(OUT_OF_RANGE) | Answer::Checked(false) => NO,
+            Answer::Volume(_) | Answer::Checked(true) => ACCEPTED,
+            Answer::Sphere(sphere) => sphere.refusal,
+            Answer::Started(started) => started.refusal,
+            Answer::Inserted(inserted) => inserted.refusal,
+            Answer::Listed(listed) => listed.refusal,
+            Answer::Located(located) => located.refusal,
+            Answer::Read(read) => read.refusal,
+            Answer::Written(written) => written.refusal,
+        }
+    }
+
     /// The record that the call leaves, of those that leave one.
     pub fn mesh(self) -> Option<Mesh> {
         match self {
@@ -71,6 +90,22 @@ pub struct Left {
 const FILLED: u8 = 0x3C;
 
 impl Call {
+    /// As in the C interface, without its prefix.
+    pub fn name(&self) -> &'static str {
+        match self {
+            Call::Volume6(_) => "volume6",
+            Call::SphereTest(..) => "sphere_test",
+            Call::Start(_) => "start",
+            Call::Insert(_) => "insert",
+            Call::InsertAnswers(..) => "insert_answers",
+            Call::InsertList(_) => "insert_list",
+            Call::Locate(_) => "locate",
+            Call::Check => "check",
+            Call::ReadNodes(..) => "read_nodes",
+            Call::WriteNodes(_) => "write_nodes",
+        }
+    }
+
     pub fn make(&self, builder: &dyn Builder, mesh: Mesh, tables: &GuardedTables) -> Left {
         let mut tables = tables.clone();
         let (mut numbers, mut bytes) = self.other_slices();

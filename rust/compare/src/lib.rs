@@ -3,16 +3,18 @@
 
 pub mod builders;
 pub mod call;
-pub mod difference;
 pub mod generate;
 pub mod guarded;
 pub mod nodes;
 pub mod run;
 pub mod script;
+pub mod stop;
+pub mod tally;
 
 #[cfg(feature = "archive")]
 pub use builders::Archive;
-pub use builders::{fault, named, Builder, Plain, Tuned};
-pub use difference::Difference;
-pub use run::run;
+pub use builders::{named, names, Builder, Plain, Tuned};
+pub use run::{run, Ran};
 pub use script::Script;
+pub use stop::Stop;
+pub use tally::Tally;

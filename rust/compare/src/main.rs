@@ -1,73 +1,76 @@
-//! compare [--seed N] [--calls N] [--build NAME] [--fault NAME]
+//! compare [--left NAME] [--right NAME] [--seed N] [--calls N] [--all-refusals]
 
 use std::process::ExitCode;
 
-use compare::{fault, named, run, Builder, Plain, Tuned};
-use plain::Fault;
+use compare::{named, names, run, Builder, Plain, Ran, Tuned};
 
-const USAGE: &str = "usage: compare [--seed N] [--calls N] [--build NAME] [--fault NAME]
-Makes so many random calls on the plain build and on the one named, tuned or archive, and stops at the
-first difference: status 1. A fault makes the plain build a wrong one.";
+const USAGE: &str = "usage: compare [--left NAME] [--right NAME] [--seed N] [--calls N] [--all-refusals]
+Makes so many random calls on two builds, plain and tuned unless others are named, and prints how often
+each call gave each answer. Status 1: stopped at a difference, or at what is wrong with both. Status 3,
+with --all-refusals: a refusal that some input reaches did not occur.";
 
 struct Options {
+    left: Box<dyn Builder>,
+    right: Box<dyn Builder>,
     seed: u64,
     calls: u64,
-    build: Box<dyn Builder>,
-    fault: Fault,
+    all_refusals: bool,
+}
+
+fn number(word: &str) -> Result<u64, String> {
+    word.parse().map_err(|_| format!("{word}: no number"))
 }
 
 fn options() -> Result<Options, String> {
     let mut options = Options {
+        left: Box::new(Plain::RIGHT),
+        right: Box::new(Tuned),
         seed: 1,
         calls: 10_000,
-        build: Box::new(Tuned),
-        fault: Fault::None,
+        all_refusals: false,
     };
     let mut words = std::env::args().skip(1);
     while let Some(word) = words.next() {
-        let value = words.next().ok_or(format!("{word}: no value"))?;
-        let number = || {
-            value
-                .parse()
-                .map_err(|_| format!("{word} {value}: no number"))
-        };
+        let mut value = || words.next().ok_or(format!("{word}: no value"));
         match word.as_str() {
-            "--seed" => options.seed = number()?,
-            "--calls" => options.calls = number()?,
-            "--build" => options.build = named(&value)?,
-            "--fault" => options.fault = fault(&value)?,
+            "--left" => options.left = named(&value()?)?,
+            "--right" => options.right = named(&value()?)?,
+            "--seed" => options.seed = number(&value()?)?,
+            "--calls" => options.calls = number(&value()?)?,
+            "--all-refusals" => options.all_refusals = true,
             _ => return Err(format!("{word}: unknown")),
         }
     }
     Ok(options)
 }
 
-fn main() -> ExitCode {
-    let Options {
-        seed,
-        calls,
-        build,
-        fault,
-    } = match options() {
-        Ok(options) => options,
-        Err(message) => {
-            eprintln!("{message}\n{USAGE}");
-            return ExitCode::from(2);
+fn compare(options: &Options) -> ExitCode {
+    let (left, right) = (options.left.as_ref(), options.right.as_ref());
+    let (seed, calls) = (options.seed, options.calls);
+    let Ran { lists, tally } = match run(left, right, seed, calls) {
+        Ok(ran) => ran,
+        Err(stop) => {
+            println!("{stop}");
+            return ExitCode::from(1);
         }
     };
-    let plain = Plain(fault);
-    match run(&plain, build.as_ref(), seed, calls) {
-        Ok(lists) => {
-            println!(
-                "{} and {}: {lists} lists, {calls} calls from seed {seed}, no difference",
-                plain.name(),
-                build.name()
-            );
-            ExitCode::SUCCESS
-        }
-        Err(difference) => {
-            println!("{difference}");
-            ExitCode::from(1)
+    let (left, right) = (left.name(), right.name());
+    println!("{left} and {right}: {lists} lists, {calls} calls from seed {seed}, no difference");
+    println!("{tally}");
+    let missing = tally.missing();
+    if options.all_refusals && !missing.is_empty() {
+        println!("did not occur: {}", missing.join(", "));
+        return ExitCode::from(3);
+    }
+    ExitCode::SUCCESS
+}
+
+fn main() -> ExitCode {
+    match options() {
+        Ok(options) => compare(&options),
+        Err(message) => {
+            eprintln!("{message}\n{USAGE}\nThe builds: {}.", names());
+            ExitCode::from(2)
         }
     }
 }

@@ -4,31 +4,44 @@ use plain::random::Random;
 
 use crate::builders::Builder;
 use crate::call::Call;
-use crate::difference::{find, Difference};
 use crate::generate::{History, Step};
 use crate::guarded::GuardedTables;
+use crate::stop::{difference, wrong_with_both, Stop};
+use crate::tally::Tally;
 
-/// Makes so many calls on both builds, and says how many lists they were; the first difference ends it.
+/// What a run without a difference went through.
+pub struct Ran {
+    pub lists: u64,
+    pub tally: Tally,
+}
+
+/// Makes so many calls on both builds; the first difference ends it, or what is wrong with both.
 pub fn run(
     left: &dyn Builder,
     right: &dyn Builder,
     seed: u64,
     calls: u64,
-) -> Result<u64, Box<Difference>> {
+) -> Result<Ran, Box<Stop>> {
     let mut random = Random::new(seed);
     let mut history = History::new(&mut random);
-    let mut lists = 1;
+    let mut ran = Ran {
+        lists: 1,
+        tally: Tally::default(),
+    };
     for number in 0..calls {
         if history.is_over() {
             history = History::new(&mut random);
-            lists += 1;
+            ran.lists += 1;
         }
         let step = history.next(&mut random);
         let tables = GuardedTables::new(&step.tables);
         let l = step.call.make(left, step.mesh, &tables);
         let r = step.call.make(right, step.mesh, &tables);
-        if let Some(what) = find(&step.call, &tables, &l, &r) {
-            return Err(Box::new(Difference {
+        let differs = difference(&l, &r);
+        let is_difference = differs.is_some();
+        if let Some(what) = differs.or_else(|| wrong_with_both(&step.call, &tables, &l)) {
+            return Err(Box::new(Stop {
+                is_difference,
                 seed,
                 step: number,
                 left: left.name(),
@@ -37,9 +50,10 @@ pub fn run(
                 what,
             }));
         }
+        ran.tally.count(step.call.name(), l.answer.outcome());
         history.take(&step, &l);
     }
-    Ok(lists)
+    Ok(ran)
 }
 
 fn describe(step: &Step) -> String {

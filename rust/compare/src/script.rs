@@ -1,27 +1,30 @@
-//! A start and insertions as lines of text, and what a build answers and leaves for them.
-
-use std::fmt::Write;
+//! A start and further calls as lines of text, and what a build answers and leaves for them.
 
 use plain::listing::cells;
-use plain::{Answers, Inserted, Owned, Position};
+use plain::loaded::Cell;
+use plain::{Answers, Inserted, Mesh, Owned, Position, NONE};
 
 use crate::builders::Builder;
 
-/// The first line is the box and the room, `box 4 4 4 points 11 cells 18`. Then a line an insertion: `sphere 1 2 3`, or
-/// `answers 110101 1 2 3` with a digit a cell, 0 for no.
+/// The first line is the box and the room, `box 4 4 4 points 11 cells 18`; then a line a call.
 #[derive(Debug, PartialEq, Eq)]
 pub struct Script {
     pub sides: Position,
     pub points: u16,
     pub cells: u16,
-    pub insertions: Vec<Insertion>,
+    pub lines: Vec<Line>,
 }
 
 #[derive(Debug, PartialEq, Eq)]
-pub struct Insertion {
-    /// By the sphere test, if none are handed in.
-    pub answers: Option<Vec<u8>>,
-    pub node: Position,
+pub enum Line {
+    /// `sphere 1 2 3`
+    Sphere(Position),
+    /// `answers 110101 1 2 3`, with a digit a cell, 0 for no.
+    Answers(Vec<u8>, Position),
+    /// `check`
+    Check,
+    /// `cell 0 0 1 3 7 - 1 5 -`: no call, but a cell put into the tables, as a listing has it.
+    Cell(u16, Cell),
 }
 
 fn number<T: std::str::FromStr>(word: &str) -> Result<T, String> {
@@ -49,23 +52,39 @@ fn start(line: &str) -> Result<Script, String> {
             sides: position(&[x, y, z])?,
             points: number(points)?,
             cells: number(cells)?,
-            insertions: vec![],
+            lines: vec![],
         }),
         _ => Err("not 'box X Y Z points P cells C'".to_string()),
     }
 }
 
-fn insertion(line: &str) -> Result<Insertion, String> {
-    let words: Vec<&str> = line.split_whitespace().collect();
-    let (answers, node) = match words[..] {
-        ["sphere", ref node @ ..] => (None, node),
-        ["answers", answers, ref node @ ..] => (Some(digits(answers)?), node),
-        _ => return Err("not 'sphere x y z' or 'answers DIGITS x y z'".to_string()),
+fn cell(words: &[&str]) -> Result<Line, String> {
+    let &[place, a, b, c, d, e, f, g, h] = words else {
+        return Err("not a number, four corners and four neighbours".to_string());
     };
-    Ok(Insertion {
-        answers,
-        node: position(node)?,
-    })
+    let neighbour = |word| match word {
+        "-" => Ok(NONE),
+        word => number(word),
+    };
+    let cell = Cell {
+        corners: [number(a)?, number(b)?, number(c)?, number(d)?],
+        neighbours: [neighbour(e)?, neighbour(f)?, neighbour(g)?, neighbour(h)?],
+    };
+    Ok(Line::Cell(number(place)?, cell))
+}
+
+fn line(text: &str, room: u16) -> Result<Line, String> {
+    let words: Vec<&str> = text.split_whitespace().collect();
+    match words[..] {
+        ["sphere", ref node @ ..] => Ok(Line::Sphere(position(node)?)),
+        ["answers", bytes, ref node @ ..] => Ok(Line::Answers(digits(bytes)?, position(node)?)),
+        ["check"] => Ok(Line::Check),
+        ["cell", ref entries @ ..] => match cell(entries)? {
+            Line::Cell(place, _) if place >= room => Err(format!("no room for a cell {place}")),
+            cell => Ok(cell),
+        },
+        _ => Err("not a line of 'sphere', 'answers', 'check' or 'cell'".to_string()),
+    }
 }
 
 fn said(answer: Inserted) -> String {
@@ -89,14 +108,14 @@ impl Script {
         let mut lines = text.lines();
         let at = |number: usize, error: String| format!("line {number}: {error}");
         let mut script = start(lines.next().unwrap_or("")).map_err(|error| at(1, error))?;
-        for (i, line) in lines.enumerate() {
-            let next = insertion(line).map_err(|error| at(i + 2, error))?;
-            script.insertions.push(next);
+        for (i, text) in lines.enumerate() {
+            let next = line(text, script.cells).map_err(|error| at(i + 2, error))?;
+            script.lines.push(next);
         }
         Ok(script)
     }
 
-    /// What the build answers to each insertion, and a listing of what it leaves.
+    /// What the build answers to each call, and a listing of what it leaves.
     pub fn play(&self, build: &dyn Builder) -> String {
         let mut tables = Owned::with_room(self.points.into(), self.cells.into());
         let started = build.start(self.sides, &mut tables.lend());
@@ -105,12 +124,31 @@ impl Script {
         }
         let mut mesh = started.mesh;
         let mut text = String::new();
-        for Insertion { answers, node } in &self.insertions {
-            let answers = answers.as_deref().map_or(Answers::Float, Answers::Given);
-            let answer = build.insert(mesh, &mut tables.lend(), answers, *node);
-            mesh = answer.mesh;
-            let _ = write!(text, "{}", said(answer));
+        for line in &self.lines {
+            text += &line.play(build, &mut mesh, &mut tables);
         }
         text + &cells(mesh, &tables)
+    }
+}
+
+impl Line {
+    fn play(&self, build: &dyn Builder, mesh: &mut Mesh, tables: &mut Owned) -> String {
+        let (answers, node) = match self {
+            Line::Sphere(node) => (Answers::Float, *node),
+            Line::Answers(bytes, node) => (Answers::Given(bytes), *node),
+            Line::Check => {
+                let is_mesh = build.check(*mesh, &mut tables.lend());
+                return format!("check {}\n", if is_mesh { "yes" } else { "no" });
+            }
+            Line::Cell(place, cell) => {
+                let entries = 4 * *place as usize..4 * *place as usize + 4;
+                tables.corners[entries.clone()].copy_from_slice(&cell.corners);
+                tables.neighbours[entries].copy_from_slice(&cell.neighbours);
+                return String::new();
+            }
+        };
+        let answer = build.insert(*mesh, &mut tables.lend(), answers, node);
+        *mesh = answer.mesh;
+        said(answer)
     }
 }

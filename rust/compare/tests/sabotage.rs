@@ -1,6 +1,6 @@
 //! The comparison sees a single wrong entry or bit.
 
-use compare::{run, Builder, Tuned};
+use compare::{run, Builder, Stop, Tuned};
 use plain::{
     Answers, Inserted, Listed, Located, Mesh, Position, Read, Sphere, Started, Tables, Written,
 };
@@ -20,6 +20,8 @@ enum Harm {
     Byte,
     /// The list's place is one more.
     Place,
+    /// A located cell is refused.
+    Unheld,
 }
 
 /// `tuned` with one harm done.
@@ -69,8 +71,11 @@ impl Builder for Harmed {
     }
 
     fn locate(&self, mesh: Mesh, tables: &mut Tables, p: Position) -> Located {
-        let answer = Tuned.locate(mesh, tables, p);
+        let mut answer = Tuned.locate(mesh, tables, p);
         self.harm(tables);
+        if matches!(self.0, Harm::Unheld) && answer.refusal == 0 {
+            answer.refusal = 7;
+        }
         answer
     }
 
@@ -91,9 +96,8 @@ impl Builder for Harmed {
     }
 }
 
-fn found(left: Harm, right: Harm) -> Option<String> {
-    let difference = run(&Harmed(left), &Harmed(right), 1, 2_000).err()?;
-    Some(difference.what)
+fn stop(left: Harm, right: Harm) -> Option<Box<Stop>> {
+    run(&Harmed(left), &Harmed(right), 1, 2_000).err()
 }
 
 #[test]
@@ -107,15 +111,28 @@ fn every_harm_is_found() {
         (Harm::Place, "answer: "),
     ];
     for (harm, what) in cases {
-        for difference in [found(harm, Harm::None), found(Harm::None, harm)] {
-            assert!(difference.is_some_and(|found| found.starts_with(what)));
+        for stop in [stop(harm, Harm::None), stop(Harm::None, harm)] {
+            assert!(stop.is_some_and(|stop| stop.is_difference && stop.what.starts_with(what)));
         }
     }
-    assert_eq!(found(Harm::None, Harm::None), None);
+    assert!(stop(Harm::None, Harm::None).is_none());
 }
 
 #[test]
 fn a_work_area_that_neither_clears_is_found() {
-    let difference = found(Harm::Work, Harm::Work);
-    assert!(difference.is_some_and(|found| found.ends_with("not cleared by both")));
+    let stop = stop(Harm::Work, Harm::Work).expect("a stop");
+    assert!(!stop.is_difference && stop.what.ends_with("not cleared"));
+    assert!(stop
+        .to_string()
+        .starts_with("wrong with both: seed 1 step "));
+}
+
+#[test]
+fn an_unheld_position_stops_both() {
+    let stop = stop(Harm::Unheld, Harm::Unheld).expect("a stop");
+    assert!(!stop.is_difference);
+    assert_eq!(
+        stop.what,
+        "answer: 7 to locate, which no input is known to reach"
+    );
 }

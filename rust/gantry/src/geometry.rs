@@ -20,7 +20,7 @@ pub fn volume6(corners: [[i32; 3]; 4]) -> Option<i64> {
     }
 }
 
-/// Where a position lies to the sphere through a cell's corners. Each case carries the float sum T of the requirements,
+/// Where a position lies to the sphere through a cell's corners. Each case carries the float sum T of document 01,
 /// which is within 2^39 of the exact sum.
 #[derive(Clone, Copy, Debug, PartialEq)]
 pub enum SphereAnswer {

@@ -2,7 +2,8 @@
 //!
 //! A [`Mesh`] owns the tables that the archive's calls are lent. Only those calls write them, so a `Mesh` is a mesh after
 //! every list of calls: that is what is proved of the archive. Every call answers for all input; a refusal has the number
-//! and name of the requirements' table ([`Refusal`]) and leaves the mesh as it was.
+//! and name of document 01's table ([`Refusal`]). A refusal changes nothing but the work area; a list that stops at a
+//! refused node keeps the nodes before it.
 //!
 //! Coordinates are whole steps: positions are three unsigned numbers, and a box runs from 0 to its sides, ends included.
 //!

@@ -134,7 +134,7 @@ impl Mesh {
     }
 
     /// Inserts one node by the float sphere test. Refused with [`Refusal::Outside`], [`Refusal::Taken`],
-    /// [`Refusal::PointsFull`] or [`Refusal::CellsFull`].
+    /// [`Refusal::PointsFull`], [`Refusal::Unheld`] or [`Refusal::CellsFull`].
     ///
     /// ```
     /// use gantry::Mesh;
@@ -168,7 +168,8 @@ impl Mesh {
         self.take(inserted)
     }
 
-    /// Inserts nodes one by one, and says how many went in; stops at the first that is refused.
+    /// Inserts nodes one by one, and says how many went in; stops at the first that is refused, as
+    /// [`insert`](Mesh::insert) would refuse it, and keeps the nodes before it.
     ///
     /// ```
     /// use gantry::{Mesh, Refusal, Stopped};
@@ -193,7 +194,7 @@ impl Mesh {
     }
 
     /// The lowest-numbered cell that holds the position, its faces, edges and corners included. Refused with
-    /// [`Refusal::Outside`].
+    /// [`Refusal::Outside`] or [`Refusal::Unheld`].
     ///
     /// ```
     /// use gantry::{Mesh, Refusal};

@@ -1,9 +1,10 @@
-//! Refusals, by the requirements' table.
+//! Refusals, by document 01's table.
 
 use std::error::Error;
 use std::fmt;
 
-/// Why a call was refused. A refused call leaves the mesh as it was.
+/// Why a call was refused. A refusal changes nothing but the work area; a list that stops at a refused node keeps the nodes
+/// before it.
 ///
 /// ```
 /// use gantry::{Mesh, Refusal};
@@ -28,7 +29,7 @@ pub enum Refusal {
     Taken = 5,
     /// There is no room for a further point.
     PointsFull = 6,
-    /// No cell holds the position.
+    /// No cell holds the position. No mesh is known in which this occurs; that there is none is not proved.
     Unheld = 7,
     /// The old cells and the new ones together exceed the room for cells.
     CellsFull = 8,

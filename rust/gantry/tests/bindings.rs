@@ -83,7 +83,7 @@ fn a_list_stops_where_the_room_ends() {
 }
 
 #[test]
-fn refusals_change_nothing() {
+fn refusals_leave_the_mesh() {
     let mut mesh = Mesh::start(4, 4, 4).unwrap();
     mesh.insert([1, 2, 3]).unwrap();
     let before = mesh.clone();

@@ -1,12 +1,13 @@
-/* The layouts and calls that src/raw.rs declares, asked of gantry.h: cc -fsyntax-only -I DIRECTORY layout.c */
+/* The layouts and calls that src/raw.rs declares, asked of gantry.h, as C11 and as C++: cc -fsyntax-only -I DIRECTORY layout.c */
+#include <assert.h>
 #include <stdbool.h>
 #include <stddef.h>
 #include <stdint.h>
 
 #include "gantry.h"
 
-#define AT(type, field, place) _Static_assert(offsetof(type, field) == (place), #type "." #field)
-#define SIZE(type, bytes) _Static_assert(sizeof(type) == (bytes), #type)
+#define AT(type, field, place) static_assert(offsetof(type, field) == (place), #type "." #field)
+#define SIZE(type, bytes) static_assert(sizeof(type) == (bytes), #type)
 
 SIZE(gantry_mesh, 20);
 AT(gantry_mesh, x, 0);
@@ -46,7 +47,10 @@ SIZE(gantry_written, 8);
 AT(gantry_written, refusal, 0);
 AT(gantry_written, bytes, 4);
 
-/* A second declaration is an error where it differs from the header's. */
+/* A second declaration is an error where it differs from the header's; in C++ only with C linkage, else it is an overload. */
+#ifdef __cplusplus
+extern "C" {
+#endif
 #define TABLES uint32_t *, size_t, uint16_t *, size_t, uint16_t *, size_t, uint16_t *, size_t
 #define SIGNED_POSITION int32_t, int32_t, int32_t
 #define POSITION uint32_t, uint32_t, uint32_t
@@ -60,3 +64,6 @@ gantry_located gantry_locate(gantry_mesh, TABLES, POSITION);
 bool gantry_check(gantry_mesh, TABLES);
 gantry_read gantry_read_nodes(const uint8_t *, size_t, uint32_t *, size_t);
 gantry_written gantry_write_nodes(gantry_mesh, TABLES, uint8_t *, size_t);
+#ifdef __cplusplus
+}
+#endif

@@ -3,47 +3,7 @@
 use crate::calls::Position;
 use crate::geometry::{sphere_sum, SphereAnswer};
 use crate::loaded::{others, Loaded};
-
-/// A deliberate fault, for showing that a comparison finds it.
-#[derive(Clone, Copy, Debug, PartialEq, Eq)]
-pub enum Fault {
-    None,
-    /// An outer face with a neighbour and P in its plane counts as visible.
-    ZeroVisible,
-    /// The correction does not look for lost corners.
-    VisibilityOnly,
-    /// The correction does not look for hidden faces.
-    LostCornersOnly,
-    /// A corner on a coplanar outer face is not lost.
-    CoplanarKeeps,
-    /// The correction stops after its first round.
-    OneRound,
-    /// A cell is removed as soon as it is marked, in ascending order, and the next is judged without it.
-    OneAtATime,
-}
-
-impl Fault {
-    pub const ALL: [Fault; 6] = [
-        Fault::ZeroVisible,
-        Fault::VisibilityOnly,
-        Fault::LostCornersOnly,
-        Fault::CoplanarKeeps,
-        Fault::OneRound,
-        Fault::OneAtATime,
-    ];
-
-    pub fn name(self) -> &'static str {
-        match self {
-            Fault::None => "none",
-            Fault::ZeroVisible => "zero-visible",
-            Fault::VisibilityOnly => "visibility-only",
-            Fault::LostCornersOnly => "lost-corners-only",
-            Fault::CoplanarKeeps => "coplanar-keeps",
-            Fault::OneRound => "one-round",
-            Fault::OneAtATime => "one-at-a-time",
-        }
-    }
-}
+use crate::rules::Rules;
 
 /// Where the insertion's yes or no comes from.
 #[derive(Clone, Copy)]
@@ -65,22 +25,30 @@ pub enum Face {
     Hidden,
 }
 
+/// What the correction asks of a cell of the cavity.
+#[derive(Clone, Copy)]
+pub struct Candidate {
+    pub in_base: bool,
+    pub has_hidden_face: bool,
+    pub has_lost_corner: bool,
+}
+
 pub struct Cavity<'a> {
+    pub rules: &'a dyn Rules,
     pub mesh: &'a Loaded,
     pub p: Position,
-    pub fault: Fault,
     pub in_base: Vec<bool>,
     pub in_cavity: Vec<bool>,
 }
 
 impl<'a> Cavity<'a> {
     /// "Base: every cell that holds P."
-    pub fn base(mesh: &'a Loaded, p: Position, fault: Fault) -> Cavity<'a> {
+    pub fn base(rules: &'a dyn Rules, mesh: &'a Loaded, p: Position) -> Cavity<'a> {
         let in_base: Vec<bool> = (0..mesh.cells.len()).map(|c| mesh.holds(c, p)).collect();
         Cavity {
+            rules,
             mesh,
             p,
-            fault,
             in_cavity: in_base.clone(),
             in_base,
         }
@@ -137,72 +105,38 @@ impl<'a> Cavity<'a> {
             return Face::Inner;
         }
         let side = self.mesh.side(c, i, self.p);
-        if side > 0 {
-            Face::Visible
-        } else if side == 0 && across.is_none() {
-            Face::Coplanar
-        } else if side == 0 && self.fault == Fault::ZeroVisible {
-            Face::Visible
-        } else {
-            Face::Hidden
-        }
+        self.rules.outer_face(side, across.is_some())
     }
 
-    /// By cell number, then face number.
-    pub fn visible_faces(&self) -> Vec<(usize, usize)> {
+    /// The faces that make a cell, by cell number, then face number.
+    pub fn starred_faces(&self) -> Vec<(usize, usize)> {
         self.cells()
             .iter()
             .flat_map(|&c| (0..4).map(move |i| (c, i)))
-            .filter(|&(c, i)| self.face(c, i) == Face::Visible)
+            .filter(|&(c, i)| self.rules.makes_cell(self.face(c, i)))
             .collect()
     }
 
-    /// "Remove all marked cells together. Stop when none is marked."
-    pub fn correct(&mut self) {
-        loop {
-            let removed = match self.fault {
-                Fault::OneAtATime => self.remove_one_by_one(),
-                _ => self.remove_together(),
-            };
-            if removed == 0 || self.fault == Fault::OneRound {
-                return;
-            }
-        }
-    }
-
-    fn remove_together(&mut self) -> usize {
-        let kept_corners = self.kept_corners();
-        let mut marked = self.cells();
-        marked.retain(|&c| self.is_marked(c, &kept_corners));
-        for &c in &marked {
+    pub fn remove(&mut self, cells: &[usize]) {
+        for &c in cells {
             self.in_cavity[c] = false;
         }
-        marked.len()
     }
 
-    fn remove_one_by_one(&mut self) -> usize {
-        let mut removed = 0;
-        for c in self.cells() {
-            if self.is_marked(c, &self.kept_corners()) {
-                self.in_cavity[c] = false;
-                removed += 1;
-            }
-        }
-        removed
+    pub fn marked(&self) -> Vec<usize> {
+        let kept_corners = self.kept_corners();
+        let mut marked = self.cells();
+        marked.retain(|&c| self.rules.is_marked(self.candidate(c, &kept_corners)));
+        marked
     }
 
-    /// "A spot cell outside the base that has an outer face neither flat nor seen, or a corner that is on no seen outer
-    /// face of the whole spot."
-    fn is_marked(&self, c: usize, kept_corners: &[bool]) -> bool {
-        let has_hidden_face = (0..4).any(|i| self.face(c, i) == Face::Hidden);
+    fn candidate(&self, c: usize, kept_corners: &[bool]) -> Candidate {
         let corners = self.mesh.cells[c].corners;
-        let has_lost_corner = corners.iter().any(|&p| !kept_corners[p as usize]);
-        !self.in_base[c]
-            && match self.fault {
-                Fault::VisibilityOnly => has_hidden_face,
-                Fault::LostCornersOnly => has_lost_corner,
-                _ => has_hidden_face || has_lost_corner,
-            }
+        Candidate {
+            in_base: self.in_base[c],
+            has_hidden_face: (0..4).any(|i| self.face(c, i) == Face::Hidden),
+            has_lost_corner: corners.iter().any(|&p| !kept_corners[p as usize]),
+        }
     }
 
     /// For each point: is it on a visible outer face of the whole cavity?
@@ -210,10 +144,7 @@ impl<'a> Cavity<'a> {
         let mut kept = vec![false; self.mesh.points.len()];
         for c in self.cells() {
             for i in 0..4 {
-                let face = self.face(c, i);
-                let keeps = face == Face::Visible
-                    || face == Face::Coplanar && self.fault == Fault::CoplanarKeeps;
-                if keeps {
+                if self.rules.keeps_corners(self.face(c, i)) {
                     for j in others(i) {
                         kept[self.mesh.cells[c].corners[j] as usize] = true;
                     }

@@ -2,28 +2,33 @@
 
 use crate::calls::{in_box, sides_in_range, Mesh, Tables};
 use crate::loaded::{box_corner, others, Loaded};
+use crate::rules::{Document01, Rules};
 
 /// The mesh check: yes or no, for all input.
 pub fn check(mesh: Mesh, tables: &mut Tables) -> bool {
-    let answer = is_mesh(mesh, tables);
+    check_with(&Document01, mesh, tables)
+}
+
+pub fn check_with(rules: &dyn Rules, mesh: Mesh, tables: &mut Tables) -> bool {
+    let answer = is_mesh(rules, mesh, tables);
     tables.work.fill(0);
     answer
 }
 
 /// Refusals 1 to 3 of a call on a mesh, or 0. A call without answer bytes passes `usize::MAX`.
-pub fn mesh_refusal(mesh: Mesh, tables: &Tables, answer_bytes: usize) -> u8 {
+pub fn mesh_refusal(rules: &dyn Rules, mesh: Mesh, tables: &Tables, answer_bytes: usize) -> u8 {
     if tables.are_short() || answer_bytes < mesh.cells as usize {
         1
     } else if !sides_in_range(mesh.sides()) {
         2
-    } else if !is_mesh(mesh, tables) {
+    } else if !is_mesh(rules, mesh, tables) {
         3
     } else {
         0
     }
 }
 
-pub fn is_mesh(mesh: Mesh, tables: &Tables) -> bool {
+fn is_mesh(rules: &dyn Rules, mesh: Mesh, tables: &Tables) -> bool {
     if tables.are_short() || !sides_in_range(mesh.sides()) {
         return false;
     }
@@ -38,7 +43,7 @@ pub fn is_mesh(mesh: Mesh, tables: &Tables) -> bool {
         && points_in_place(&loaded)
         && every_point_is_a_corner(&loaded)
         && (0..loaded.cells.len()).all(|c| loaded.volume(c) > 0)
-        && (0..loaded.cells.len()).all(|c| (0..4).all(|i| face_is_right(&loaded, c, i)))
+        && (0..loaded.cells.len()).all(|c| (0..4).all(|i| face_is_right(rules, &loaded, c, i)))
         && volumes_fill_the_box(&loaded)
 }
 
@@ -66,7 +71,7 @@ fn every_point_is_a_corner(mesh: &Loaded) -> bool {
     is_corner.iter().all(|&yes| yes)
 }
 
-fn face_is_right(mesh: &Loaded, c: usize, i: usize) -> bool {
+fn face_is_right(rules: &dyn Rules, mesh: &Loaded, c: usize, i: usize) -> bool {
     if mesh.across(c, i).is_none() {
         return on_one_wall(mesh, c, i);
     }
@@ -74,7 +79,7 @@ fn face_is_right(mesh: &Loaded, c: usize, i: usize) -> bool {
         return false;
     };
     let fourth = mesh.cells[u].corners[k] as usize;
-    mesh.side(c, i, mesh.points[fourth]) < 0
+    rules.is_on_far_side(mesh.side(c, i, mesh.points[fourth]))
 }
 
 fn on_one_wall(mesh: &Loaded, c: usize, i: usize) -> bool {

@@ -2,26 +2,27 @@
 
 use crate::calls::{in_box, Inserted, Listed, Mesh, Position, Tables};
 pub use crate::cavity::Answers;
-use crate::cavity::{Cavity, Fault};
+use crate::cavity::Cavity;
 use crate::check::mesh_refusal;
 use crate::loaded::{Cell, Loaded};
+use crate::rules::{Document01, Rules};
 use crate::star::star;
 
 pub fn insert(mesh: Mesh, tables: &mut Tables, p: Position) -> Inserted {
-    insert_with(Fault::None, mesh, tables, Answers::Float, p)
+    insert_with(&Document01, mesh, tables, Answers::Float, p)
 }
 
 pub fn insert_answers(mesh: Mesh, tables: &mut Tables, answers: &[u8], p: Position) -> Inserted {
-    insert_with(Fault::None, mesh, tables, Answers::Given(answers), p)
+    insert_with(&Document01, mesh, tables, Answers::Given(answers), p)
 }
 
 pub fn insert_list(mesh: Mesh, tables: &mut Tables, nodes: &[u32]) -> Listed {
-    insert_list_with(Fault::None, mesh, tables, nodes)
+    insert_list_with(&Document01, mesh, tables, nodes)
 }
 
-/// One insertion by the right build or a wrong one.
+/// One insertion, by the right rules or wrong ones.
 pub fn insert_with(
-    fault: Fault,
+    rules: &dyn Rules,
     mesh: Mesh,
     tables: &mut Tables,
     answers: Answers,
@@ -31,17 +32,22 @@ pub fn insert_with(
         Answers::Float => usize::MAX,
         Answers::Given(bytes) => bytes.len(),
     };
-    let answer = match mesh_refusal(mesh, tables, answer_bytes) {
-        0 => insert_in_mesh(fault, mesh, tables, answers, p),
+    let answer = match mesh_refusal(rules, mesh, tables, answer_bytes) {
+        0 => insert_in_mesh(rules, mesh, tables, answers, p),
         refusal => Inserted::refused(refusal, mesh),
     };
     tables.work.fill(0);
     answer
 }
 
-pub fn insert_list_with(fault: Fault, mesh: Mesh, tables: &mut Tables, nodes: &[u32]) -> Listed {
-    let answer = match mesh_refusal(mesh, tables, usize::MAX) {
-        0 => insert_nodes(fault, mesh, tables, nodes),
+pub fn insert_list_with(
+    rules: &dyn Rules,
+    mesh: Mesh,
+    tables: &mut Tables,
+    nodes: &[u32],
+) -> Listed {
+    let answer = match mesh_refusal(rules, mesh, tables, usize::MAX) {
+        0 => insert_nodes(rules, mesh, tables, nodes),
         refusal => Listed {
             refusal,
             mesh,
@@ -53,11 +59,11 @@ pub fn insert_list_with(fault: Fault, mesh: Mesh, tables: &mut Tables, nodes: &[
 }
 
 /// "One or two numbers after the last whole node are not read."
-fn insert_nodes(fault: Fault, mut mesh: Mesh, tables: &mut Tables, nodes: &[u32]) -> Listed {
+fn insert_nodes(rules: &dyn Rules, mut mesh: Mesh, tables: &mut Tables, nodes: &[u32]) -> Listed {
     let mut place = 0;
     for node in nodes.chunks_exact(3) {
         let p = [node[0], node[1], node[2]];
-        let inserted = insert_in_mesh(fault, mesh, tables, Answers::Float, p);
+        let inserted = insert_in_mesh(rules, mesh, tables, Answers::Float, p);
         if inserted.refusal != 0 {
             return Listed {
                 refusal: inserted.refusal,
@@ -77,7 +83,7 @@ fn insert_nodes(fault: Fault, mut mesh: Mesh, tables: &mut Tables, nodes: &[u32]
 
 /// Refusals 4 to 8, and the insertion, in tables that pass the mesh check.
 fn insert_in_mesh(
-    fault: Fault,
+    rules: &dyn Rules,
     mesh: Mesh,
     tables: &mut Tables,
     answers: Answers,
@@ -93,15 +99,15 @@ fn insert_in_mesh(
     if loaded.points.len() == tables.point_capacity() {
         return Inserted::refused(6, mesh);
     }
-    let mut cavity = Cavity::base(&loaded, p, fault);
+    let mut cavity = Cavity::base(rules, &loaded, p);
     if cavity.cells().is_empty() {
         return Inserted::refused(7, mesh);
     }
     cavity.grow(answers);
     let before = cavity.cells().len();
     let least = cavity.least(answers);
-    cavity.correct();
-    let made = cavity.visible_faces().len();
+    rules.correct(&mut cavity);
+    let made = cavity.starred_faces().len();
     if loaded.cells.len() + made > tables.cell_capacity() {
         return Inserted::refused(8, mesh);
     }

@@ -1,5 +1,6 @@
 //! An obvious build of document 01: each call loads the lent tables into lists, works on those, and stores the result.
-//! Nothing here is made fast; it is written to be compared with.
+//! Nothing here is made fast; it is written to be compared with. A call named `_with` takes the rules that a wrong build
+//! overrides; the others go by the right ones.
 
 pub mod calls;
 pub mod cavity;
@@ -10,15 +11,16 @@ pub mod listing;
 pub mod loaded;
 pub mod nodefile;
 pub mod random;
+pub mod rules;
 pub mod star;
 
 pub use calls::*;
-pub use cavity::Fault;
-pub use check::check;
+pub use check::{check, check_with};
 pub use geometry::{sphere_test, volume6, OUT_OF_RANGE};
 pub use insertion::{insert, insert_answers, insert_list, insert_list_with, insert_with, Answers};
 pub use listing::listing;
-pub use nodefile::{read_nodes, write_nodes};
+pub use nodefile::{read_nodes, write_nodes, write_nodes_with};
+pub use rules::{Document01, Rules};
 
 use loaded::{Loaded, STARTED_CORNERS};
 
@@ -56,14 +58,18 @@ fn started(sides: Position, tables: &mut Tables) -> Started {
 
 /// The lowest-numbered cell that holds the position.
 pub fn locate(mesh: Mesh, tables: &mut Tables, p: Position) -> Located {
-    let answer = located(mesh, tables, p);
+    locate_with(&Document01, mesh, tables, p)
+}
+
+pub fn locate_with(rules: &dyn Rules, mesh: Mesh, tables: &mut Tables, p: Position) -> Located {
+    let answer = located(rules, mesh, tables, p);
     tables.work.fill(0);
     answer
 }
 
-fn located(mesh: Mesh, tables: &Tables, p: Position) -> Located {
+fn located(rules: &dyn Rules, mesh: Mesh, tables: &Tables, p: Position) -> Located {
     let refused = |refusal| Located { refusal, cell: 0 };
-    let refusal = check::mesh_refusal(mesh, tables, usize::MAX);
+    let refusal = check::mesh_refusal(rules, mesh, tables, usize::MAX);
     if refusal != 0 {
         return refused(refusal);
     }

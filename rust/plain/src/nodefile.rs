@@ -2,6 +2,7 @@
 
 use crate::calls::{sides_in_range, Mesh, Position, Read, Tables, Written, NODE_LIMIT};
 use crate::check::mesh_refusal;
+use crate::rules::{Document01, Rules};
 
 pub const TRAILER: usize = 20;
 pub const RECORD: usize = 12;
@@ -58,14 +59,23 @@ pub fn encode(sides: Position, nodes: &[Position]) -> Vec<u8> {
 
 /// "Writes points 8 onward."
 pub fn write_nodes(mesh: Mesh, tables: &mut Tables, out: &mut [u8]) -> Written {
-    let answer = written(mesh, tables, out);
+    write_nodes_with(&Document01, mesh, tables, out)
+}
+
+pub fn write_nodes_with(
+    rules: &dyn Rules,
+    mesh: Mesh,
+    tables: &mut Tables,
+    out: &mut [u8],
+) -> Written {
+    let answer = written(rules, mesh, tables, out);
     tables.work.fill(0);
     answer
 }
 
-fn written(mesh: Mesh, tables: &Tables, out: &mut [u8]) -> Written {
+fn written(rules: &dyn Rules, mesh: Mesh, tables: &Tables, out: &mut [u8]) -> Written {
     let refused = |refusal| Written { refusal, bytes: 0 };
-    let refusal = mesh_refusal(mesh, tables, usize::MAX);
+    let refusal = mesh_refusal(rules, mesh, tables, usize::MAX);
     if refusal != 0 {
         return refused(refusal);
     }

@@ -4,7 +4,7 @@ use crate::calls::NONE;
 use crate::cavity::{Cavity, Face};
 use crate::loaded::{others, Cell};
 
-/// The cells outside the cavity in their old order, then a new one on each visible outer face.
+/// The cells outside the cavity in their old order, then a new one on each starred face.
 pub fn star(cavity: &Cavity, point: u16) -> Vec<Cell> {
     let star = Star::new(cavity);
     let kept = (0..cavity.in_cavity.len()).filter(|&c| !cavity.in_cavity[c]);
@@ -15,7 +15,7 @@ pub fn star(cavity: &Cavity, point: u16) -> Vec<Cell> {
 
 struct Star<'a> {
     cavity: &'a Cavity<'a>,
-    /// The visible outer faces, in the order of their new cells.
+    /// In the order of their new cells.
     faces: Vec<(usize, usize)>,
     /// The number that each kept cell gets; `NONE` for a cell of the cavity.
     kept_numbers: Vec<u16>,
@@ -34,7 +34,7 @@ impl<'a> Star<'a> {
         }
         Star {
             cavity,
-            faces: cavity.visible_faces(),
+            faces: cavity.starred_faces(),
             kept_numbers,
             kept_count,
         }
@@ -74,7 +74,7 @@ impl<'a> Star<'a> {
     }
 
     /// "Turn round that edge through spot cells to the next outer face": in cell c, having come in by face i, about to
-    /// leave by face j. In a mesh the turn ends; the bound is for the tables of a faulty build.
+    /// leave by face j. In a mesh the turn ends; the bound is for tables that wrong rules left.
     fn next_outer_face(&self, mut c: usize, mut i: usize, mut j: usize) -> Option<(usize, usize)> {
         let mesh = self.cavity.mesh;
         for _ in 0..12 * mesh.cells.len() {

@@ -197,16 +197,3 @@ fn node_files_read_back() {
         assert_eq!(read_back, kit.tables.points[24..24 + 3 * nodes]);
     }
 }
-
-#[test]
-fn wrong_builds_answer_too() {
-    for fault in plain::Fault::ALL {
-        for seed in 0..20 {
-            let mut random = Random::new(seed);
-            let mut kit = Kit::started([8; 3], 40, 400);
-            let nodes: Vec<u32> = (0..60).map(|_| random.below(9) as u32).collect();
-            let mut tables = kit.tables.lend();
-            plain::insert_list_with(fault, kit.mesh, &mut tables, &nodes);
-        }
-    }
-}

@@ -1,4 +1,4 @@
-//! Node files from plain text, and meshes as VTK grids and pictures.
+//! Node files from plain text, and meshes as listings, VTK grids and pictures.
 
 pub mod grid;
 pub mod listing;

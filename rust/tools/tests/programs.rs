@@ -1,4 +1,4 @@
-//! The two programs, from text to grid.
+//! The programs, from text to grid and listing.
 
 use std::io::Write;
 use std::process::{Command, Output, Stdio};
@@ -20,6 +20,7 @@ fn run(program: &str, words: &[&str], input: &[u8]) -> Output {
 
 const NODES: &str = env!("CARGO_BIN_EXE_nodes");
 const VTK: &str = env!("CARGO_BIN_EXE_vtk");
+const PLAIN_LISTING: &str = env!("CARGO_BIN_EXE_plain_listing");
 
 #[test]
 fn from_text_to_grid() {
@@ -46,8 +47,29 @@ fn from_listing_to_grid() {
 }
 
 #[test]
+fn from_node_file_to_listing() {
+    let list = |file: &[u8]| run(PLAIN_LISTING, &[], file);
+    let file = run(NODES, &[], b"4 4 4\n1 2 3\n1 2 3\n").stdout;
+    let mut longest = vec![b'n'; 65_536 - file.len()];
+    longest.extend(&file);
+    for input in [&file, &longest] {
+        let output = list(input);
+        assert!(output.status.success() && output.stderr.is_empty());
+        let text = String::from_utf8(output.stdout).expect("text");
+        assert!(text.starts_with("box 4 4 4 points 9 cells 12\n0 8 1 3 7 - "));
+        assert!(text.ends_with("\nstopped 1 5\n"));
+    }
+    longest.insert(0, b'n');
+    for refused in [&longest[..], b""] {
+        let output = list(refused);
+        assert!(output.status.success() && output.stderr.is_empty());
+        assert_eq!(output.stdout, b"refused 9\n");
+    }
+}
+
+#[test]
 fn errors_are_told_and_nothing_is_written() {
-    let cases: [(&str, &[&str], &[u8], &str); 6] = [
+    let cases: [(&str, &[&str], &[u8], &str); 7] = [
         (
             NODES,
             &[],
@@ -56,6 +78,7 @@ fn errors_are_told_and_nothing_is_written() {
         ),
         (NODES, &["--help"], b"", "usage: nodes"),
         (NODES, &["/no/such/file"], b"", "/no/such/file: "),
+        (PLAIN_LISTING, &["-"], b"", "usage: plain_listing"),
         (VTK, &["-"], b"short", "the node file is refused: 9\n"),
         (VTK, &[], b"", "usage: vtk"),
         (VTK, &["--listing", "-", "-"], b"", "standard input can be"),

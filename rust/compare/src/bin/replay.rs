@@ -2,12 +2,12 @@
 
 use std::process::ExitCode;
 
-use compare::{named, Script};
+use compare::{named, names, Script};
 
 const USAGE: &str = "usage: replay [--build NAME] CALLS
-Makes the calls of a file on the build named, plain, tuned or archive, or plain made wrong by a fault's name, and prints what it
-answers and leaves. The first line of the file is 'box X Y Z points P cells C', the others are 'sphere x y z' or
-'answers DIGITS x y z' with a digit a cell, 0 for no.";
+Makes the calls of a file on the build named, plain unless another is, and prints what it answers and leaves. The first line of the
+file is 'box X Y Z points P cells C', the others are 'sphere x y z', 'answers DIGITS x y z' with a digit a cell, 0 for no, 'check',
+or 'cell NUMBER', four corners and four neighbours, which puts a cell into the tables.";
 
 fn play() -> Result<String, String> {
     let words: Vec<String> = std::env::args().skip(1).collect();
@@ -15,7 +15,7 @@ fn play() -> Result<String, String> {
     let (build, file) = match words[..] {
         ["--build", name, file] => (name, file),
         [file] if !file.starts_with('-') => ("plain", file),
-        _ => return Err(USAGE.to_string()),
+        _ => return Err(format!("{USAGE}\nThe builds: {}.", names())),
     };
     let build = named(build)?;
     let text = std::fs::read_to_string(file).map_err(|error| format!("{file}: {error}"))?;

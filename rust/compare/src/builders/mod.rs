@@ -11,30 +11,28 @@ pub use self::plain::Plain;
 pub use self::tuned::Tuned;
 
 use ::plain::{
-    Answers, Fault, Inserted, Listed, Located, Mesh, Position, Read, Sphere, Started, Tables,
-    Written,
+    Answers, Inserted, Listed, Located, Mesh, Position, Read, Sphere, Started, Tables, Written,
 };
 
-/// The build with this name: plain, tuned, archive, or plain made wrong by the fault with this name.
+/// The build with this name: plain, tuned, archive, or a wrong one.
 pub fn named(name: &str) -> Result<Box<dyn Builder>, String> {
     match name {
-        "plain" => Ok(Box::new(Plain(Fault::None))),
+        "plain" => Ok(Box::new(Plain::RIGHT)),
         "tuned" => Ok(Box::new(Tuned)),
         #[cfg(feature = "archive")]
         "archive" => Ok(Box::new(Archive)),
         #[cfg(not(feature = "archive"))]
         "archive" => Err("archive: compiled without '--features archive'".to_string()),
-        _ => match fault(name) {
-            Ok(fault) => Ok(Box::new(Plain(fault))),
-            Err(error) => Err(error + ", plain, tuned, archive"),
+        _ => match wrong::ALL.into_iter().find(|build| build.name == name) {
+            Some(build) => Ok(Box::new(Plain::wrong(build))),
+            None => Err(format!("{name}: not one of {}", names())),
         },
     }
 }
 
-pub fn fault(name: &str) -> Result<Fault, String> {
-    let found = Fault::ALL.into_iter().find(|fault| fault.name() == name);
-    let names = Fault::ALL.map(Fault::name).join(", ");
-    found.ok_or(format!("{name}: not one of {names}"))
+pub fn names() -> String {
+    let wrong = wrong::ALL.map(|build| build.name).join(", ");
+    format!("plain, tuned, archive, {wrong}")
 }
 
 pub trait Builder {

@@ -1,17 +1,33 @@
-use plain::{Answers, Fault};
-use plain::{Inserted, Listed, Located, Mesh, Position, Read, Sphere, Started, Tables, Written};
+use plain::{
+    Answers, Document01, Inserted, Listed, Located, Mesh, Position, Read, Rules, Sphere, Started,
+    Tables, Written,
+};
 
 use super::Builder;
 
-/// The plain build, the right one or a wrong one.
-pub struct Plain(pub Fault);
+/// The plain build, by the right rules or by wrong ones.
+pub struct Plain {
+    name: &'static str,
+    rules: &'static dyn Rules,
+}
+
+impl Plain {
+    pub const RIGHT: Plain = Plain {
+        name: "plain",
+        rules: &Document01,
+    };
+
+    pub fn wrong(build: wrong::Build) -> Plain {
+        Plain {
+            name: build.name,
+            rules: build.rules,
+        }
+    }
+}
 
 impl Builder for Plain {
     fn name(&self) -> String {
-        match self.0 {
-            Fault::None => "plain".to_string(),
-            fault => format!("plain with {}", fault.name()),
-        }
+        self.name.to_string()
     }
 
     fn volume6(&self, numbers: [i32; 12]) -> i64 {
@@ -27,19 +43,19 @@ impl Builder for Plain {
     }
 
     fn insert(&self, mesh: Mesh, tables: &mut Tables, answers: Answers, p: Position) -> Inserted {
-        plain::insert_with(self.0, mesh, tables, answers, p)
+        plain::insert_with(self.rules, mesh, tables, answers, p)
     }
 
     fn insert_list(&self, mesh: Mesh, tables: &mut Tables, nodes: &[u32]) -> Listed {
-        plain::insert_list_with(self.0, mesh, tables, nodes)
+        plain::insert_list_with(self.rules, mesh, tables, nodes)
     }
 
     fn locate(&self, mesh: Mesh, tables: &mut Tables, p: Position) -> Located {
-        plain::locate(mesh, tables, p)
+        plain::locate_with(self.rules, mesh, tables, p)
     }
 
     fn check(&self, mesh: Mesh, tables: &mut Tables) -> bool {
-        plain::check(mesh, tables)
+        plain::check_with(self.rules, mesh, tables)
     }
 
     fn read_nodes(&self, file: &[u8], nodes: &mut [u32]) -> Read {
@@ -47,6 +63,6 @@ impl Builder for Plain {
     }
 
     fn write_nodes(&self, mesh: Mesh, tables: &mut Tables, out: &mut [u8]) -> Written {
-        plain::write_nodes(mesh, tables, out)
+        plain::write_nodes_with(self.rules, mesh, tables, out)
     }
 }

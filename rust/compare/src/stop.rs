@@ -1,12 +1,15 @@
-//! The first difference between what two builds leave.
+//! Where a comparison stops: at the first difference between what two builds leave, or at what is wrong with both.
 
 use std::fmt;
 
 use crate::call::{Call, Left};
 use crate::guarded::{Guarded, GuardedTables};
+use crate::tally::{is_reachable, outcome_name};
 
 #[derive(Debug)]
-pub struct Difference {
+pub struct Stop {
+    /// Else it is wrong with both.
+    pub is_difference: bool,
     pub seed: u64,
     pub step: u64,
     pub left: String,
@@ -16,17 +19,20 @@ pub struct Difference {
     pub what: String,
 }
 
-impl fmt::Display for Difference {
+impl fmt::Display for Stop {
     fn fmt(&self, f: &mut fmt::Formatter) -> fmt::Result {
-        writeln!(f, "difference: seed {} step {}", self.seed, self.step)?;
+        let title = match self.is_difference {
+            true => "difference",
+            false => "wrong with both",
+        };
+        writeln!(f, "{title}: seed {} step {}", self.seed, self.step)?;
         writeln!(f, "left {}, right {}", self.left, self.right)?;
         writeln!(f, "call: {}", self.call)?;
         write!(f, "{}", self.what)
     }
 }
 
-/// What differs between the two, or is wrong with both, if anything.
-pub fn find(call: &Call, before: &GuardedTables, left: &Left, right: &Left) -> Option<String> {
+pub fn difference(left: &Left, right: &Left) -> Option<String> {
     if !left.answer.is_same(right.answer) {
         return Some(format!(
             "answer: left {:?}, right {:?}",
@@ -40,8 +46,13 @@ pub fn find(call: &Call, before: &GuardedTables, left: &Left, right: &Left) -> O
         .or_else(|| differs("work", &l.work, &r.work))
         .or_else(|| differs("numbers", &left.numbers, &right.numbers))
         .or_else(|| differs("bytes", &left.bytes, &right.bytes))
-        .or_else(|| wrong_work(call, before, l))
+}
+
+/// Of what both left alike.
+pub fn wrong_with_both(call: &Call, before: &GuardedTables, left: &Left) -> Option<String> {
+    wrong_work(call, before, &left.tables)
         .or_else(|| wrong_input(call, left))
+        .or_else(|| unknown_answer(call, left))
 }
 
 fn differs<T>(name: &str, left: &Guarded<T>, right: &Guarded<T>) -> Option<String>
@@ -65,10 +76,10 @@ where
 /// "A work area lent to a call is zero over its whole length afterwards."
 fn wrong_work(call: &Call, before: &GuardedTables, left: &GuardedTables) -> Option<String> {
     if !call.is_on_tables() {
-        return (left.work != before.work).then(|| "work: written by both".to_string());
+        return (left.work != before.work).then(|| "work: written".to_string());
     }
     let place = left.work.lent().iter().position(|&entry| entry != 0)?;
-    Some(format!("work[{place}]: not cleared by both"))
+    Some(format!("work[{place}]: not cleared"))
 }
 
 fn wrong_input(call: &Call, left: &Left) -> Option<String> {
@@ -78,5 +89,13 @@ fn wrong_input(call: &Call, left: &Left) -> Option<String> {
         Call::ReadNodes(file, _) => left.bytes.lent() != file,
         _ => false,
     };
-    changed.then(|| "input: written by both".to_string())
+    changed.then(|| "input: written".to_string())
+}
+
+fn unknown_answer(call: &Call, left: &Left) -> Option<String> {
+    let (name, outcome) = (call.name(), left.answer.outcome());
+    (!is_reachable(name, outcome)).then(|| {
+        let outcome = outcome_name(outcome);
+        format!("answer: {outcome} to {name}, which no input is known to reach")
+    })
 }

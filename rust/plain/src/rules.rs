@@ -1,0 +1,56 @@
+//! The rules of document 01 that a build is known to get wrong. They are right as they stand here; a wrong build gives one
+//! of them another body.
+
+use crate::cavity::{Candidate, Cavity, Face};
+
+pub trait Rules {
+    /// "Flat if it has no neighbour and P lies in its plane; seen if P lies strictly on its cell's side": `side` is P's,
+    /// above 0 on the cell's side and 0 in the plane.
+    fn outer_face(&self, side: i128, has_neighbour: bool) -> Face {
+        if side > 0 {
+            Face::Visible
+        } else if side == 0 && !has_neighbour {
+            Face::Coplanar
+        } else {
+            Face::Hidden
+        }
+    }
+
+    /// A corner "that is on no seen outer face" is lost.
+    fn keeps_corners(&self, face: Face) -> bool {
+        face == Face::Visible
+    }
+
+    /// "Mark each spot cell outside the base that has an outer face neither flat nor seen, or a corner that is on no seen
+    /// outer face of the whole spot."
+    fn is_marked(&self, cell: Candidate) -> bool {
+        !cell.in_base && (cell.has_hidden_face || cell.has_lost_corner)
+    }
+
+    /// One round: "Remove all marked cells together." Says how many.
+    fn remove_marked(&self, cavity: &mut Cavity) -> usize {
+        let marked = cavity.marked();
+        cavity.remove(&marked);
+        marked.len()
+    }
+
+    /// "Stop when none is marked."
+    fn correct(&self, cavity: &mut Cavity) {
+        while self.remove_marked(cavity) > 0 {}
+    }
+
+    /// "Each seen outer face makes a cell."
+    fn makes_cell(&self, face: Face) -> bool {
+        face == Face::Visible
+    }
+
+    /// Of the mesh check: the neighbour's "fourth corner lies strictly on the other side", where `side` is below 0.
+    fn is_on_far_side(&self, side: i128) -> bool {
+        side < 0
+    }
+}
+
+/// The right rules.
+pub struct Document01;
+
+impl Rules for Document01 {}

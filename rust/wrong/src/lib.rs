@@ -1,0 +1,119 @@
+//! Wrong builds: the plain build with one rule of document 01 read wrongly, for showing that a comparison finds it. The five
+//! of the document's list "Known wrong builds" come first, under its words.
+
+use plain::cavity::{Candidate, Cavity, Face};
+use plain::Rules;
+
+#[derive(Clone, Copy)]
+pub struct Build {
+    pub name: &'static str,
+    pub rules: &'static dyn Rules,
+}
+
+pub const ALL: [Build; 9] = [
+    build("zero-visible", &ZeroVisible),
+    build("coplanar-starred", &CoplanarStarred),
+    build("base-removed", &BaseRemoved),
+    build("visibility-only", &VisibilityOnly),
+    build("far-side-left-out", &FarSideLeftOut),
+    build("lost-corners-only", &LostCornersOnly),
+    build("coplanar-keeps", &CoplanarKeeps),
+    build("one-round", &OneRound),
+    build("one-at-a-time", &OneAtATime),
+];
+
+const fn build(name: &'static str, rules: &'static dyn Rules) -> Build {
+    Build { name, rules }
+}
+
+/// "Zero counted as seen for a face inside the box: flat cells."
+pub struct ZeroVisible;
+
+impl Rules for ZeroVisible {
+    fn outer_face(&self, side: i128, has_neighbour: bool) -> Face {
+        match side {
+            0 if !has_neighbour => Face::Coplanar,
+            0.. => Face::Visible,
+            _ => Face::Hidden,
+        }
+    }
+}
+
+/// "A wall face through P starred: volume 0."
+pub struct CoplanarStarred;
+
+impl Rules for CoplanarStarred {
+    fn makes_cell(&self, face: Face) -> bool {
+        matches!(face, Face::Visible | Face::Coplanar)
+    }
+}
+
+/// "A base cell removed by the correction: P in no cell."
+pub struct BaseRemoved;
+
+impl Rules for BaseRemoved {
+    fn is_marked(&self, cell: Candidate) -> bool {
+        cell.has_hidden_face || cell.has_lost_corner
+    }
+}
+
+/// "Correction by visibility alone: an old node vanishes, volumes still add up."
+pub struct VisibilityOnly;
+
+impl Rules for VisibilityOnly {
+    fn is_marked(&self, cell: Candidate) -> bool {
+        !cell.in_base && cell.has_hidden_face
+    }
+}
+
+/// "The sum of volumes compared without the far-side test: folded pairs pass."
+pub struct FarSideLeftOut;
+
+impl Rules for FarSideLeftOut {
+    fn is_on_far_side(&self, _side: i128) -> bool {
+        true
+    }
+}
+
+/// The correction looks for lost corners, and not for hidden faces.
+pub struct LostCornersOnly;
+
+impl Rules for LostCornersOnly {
+    fn is_marked(&self, cell: Candidate) -> bool {
+        !cell.in_base && cell.has_lost_corner
+    }
+}
+
+/// A corner on a coplanar outer face counts as kept, though it is on no visible one.
+pub struct CoplanarKeeps;
+
+impl Rules for CoplanarKeeps {
+    fn keeps_corners(&self, face: Face) -> bool {
+        matches!(face, Face::Visible | Face::Coplanar)
+    }
+}
+
+/// The correction stops after its first round.
+pub struct OneRound;
+
+impl Rules for OneRound {
+    fn correct(&self, cavity: &mut Cavity) {
+        self.remove_marked(cavity);
+    }
+}
+
+/// A marked cell is removed at once, in ascending order, and the next is judged without it.
+pub struct OneAtATime;
+
+impl Rules for OneAtATime {
+    fn remove_marked(&self, cavity: &mut Cavity) -> usize {
+        let mut removed = 0;
+        for c in cavity.cells() {
+            if cavity.marked().contains(&c) {
+                cavity.remove(&[c]);
+                removed += 1;
+            }
+        }
+        removed
+    }
+}

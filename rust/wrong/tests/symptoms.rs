@@ -1,0 +1,189 @@
+//! What each wrong build does to a mesh: for the five known ones, the symptom that document 01 names.
+
+use plain::loaded::Loaded;
+use plain::random::Random;
+use plain::{Answers, Document01, Mesh, Owned, Position, Rules};
+use wrong::{
+    BaseRemoved, CoplanarKeeps, CoplanarStarred, FarSideLeftOut, LostCornersOnly, OneAtATime,
+    OneRound, VisibilityOnly, ZeroVisible,
+};
+
+#[derive(Clone, Debug, PartialEq, Eq)]
+struct Kit {
+    mesh: Mesh,
+    tables: Owned,
+}
+
+impl Kit {
+    fn started(sides: Position) -> Kit {
+        let mut tables = Owned::with_room(40, 400);
+        let started = plain::start(sides, &mut tables.lend());
+        assert_eq!(started.refusal, 0);
+        Kit {
+            mesh: started.mesh,
+            tables,
+        }
+    }
+
+    /// The box 4, 4, 4 with these nodes put in by a build, every answer yes.
+    fn with(rules: &dyn Rules, nodes: &[Position]) -> Kit {
+        let mut kit = Kit::started([4; 3]);
+        for &p in nodes {
+            let answers = Answers::Given(&[1; 64]);
+            let answer = plain::insert_with(rules, kit.mesh, &mut kit.tables.lend(), answers, p);
+            assert_eq!(answer.refusal, 0);
+            kit.mesh = answer.mesh;
+        }
+        kit
+    }
+
+    fn is_mesh(&mut self) -> bool {
+        plain::check(self.mesh, &mut self.tables.lend())
+    }
+
+    fn volumes(&mut self) -> Vec<i128> {
+        let loaded = Loaded::load(self.mesh, &self.tables.lend());
+        (0..loaded.cells.len()).map(|c| loaded.volume(c)).collect()
+    }
+
+    fn has_corner(&self, point: u16) -> bool {
+        self.tables.corners[..4 * self.mesh.cells as usize].contains(&point)
+    }
+}
+
+/// What a wrong build leaves; the right one leaves a mesh.
+fn wrongly(rules: &dyn Rules, nodes: &[Position]) -> Kit {
+    assert!(Kit::with(&Document01, nodes).is_mesh());
+    Kit::with(rules, nodes)
+}
+
+const HIDDEN_BEHIND: &[Position] = &[[1, 0, 0], [4, 1, 0], [2, 0, 0]];
+
+#[test]
+fn zero_visible_makes_flat_cells() {
+    let mut kit = wrongly(&ZeroVisible, &[[1, 0, 0], [2, 4, 0], [2, 0, 0]]);
+    assert!(kit.volumes().contains(&0));
+    assert!(!kit.is_mesh());
+}
+
+#[test]
+fn coplanar_starred_makes_cells_of_volume_0() {
+    let mut kit = wrongly(&CoplanarStarred, &[[2, 2, 0]]);
+    // Two wall faces pass through P.
+    let flat = kit.volumes().into_iter().filter(|&v| v == 0);
+    assert_eq!(flat.count(), 2);
+    assert!(!kit.is_mesh());
+}
+
+#[test]
+fn base_removed_leaves_the_node_in_no_cell() {
+    let mut kit = wrongly(&BaseRemoved, &[[1, 2, 3], [2, 2, 2]]);
+    assert_eq!(kit.mesh.points, 10);
+    assert!(!kit.has_corner(9));
+    assert!(!kit.is_mesh());
+}
+
+#[test]
+fn visibility_only_loses_an_old_node() {
+    let mut kit = wrongly(&VisibilityOnly, &[[4, 1, 0], [4, 2, 0]]);
+    assert!(!kit.has_corner(8));
+    assert!(kit.volumes().iter().all(|&v| v > 0));
+    assert_eq!(kit.volumes().iter().sum::<i128>(), 384);
+    assert!(!kit.is_mesh());
+}
+
+/// Three of the started cells, each twice, each mated with its double.
+fn folded_pairs() -> Kit {
+    let mut kit = Kit::started([4; 3]);
+    let cells: [[u16; 4]; 3] = [[0, 1, 3, 7], [0, 2, 6, 7], [0, 4, 5, 7]];
+    for (k, cell) in cells.iter().enumerate() {
+        for (c, double) in [(2 * k, 2 * k + 1), (2 * k + 1, 2 * k)] {
+            kit.tables.corners[4 * c..4 * c + 4].copy_from_slice(cell);
+            kit.tables.neighbours[4 * c..4 * c + 4].fill(double as u16);
+        }
+    }
+    kit
+}
+
+#[test]
+fn far_side_left_out_passes_folded_pairs() {
+    let mut kit = folded_pairs();
+    assert_eq!(kit.volumes(), [64; 6]);
+    assert!(!kit.is_mesh());
+    assert!(plain::check_with(
+        &FarSideLeftOut,
+        kit.mesh,
+        &mut kit.tables.lend()
+    ));
+    // Nor is every position held any more.
+    let p = [2, 3, 1];
+    let located = |rules| plain::locate_with(rules, kit.mesh, &mut kit.tables.clone().lend(), p);
+    assert_eq!(located(&FarSideLeftOut).refusal, 7);
+    assert_eq!(located(&Document01).refusal, 3);
+}
+
+#[test]
+fn lost_corners_only_lets_cells_overlap() {
+    let mut kit = wrongly(&LostCornersOnly, HIDDEN_BEHIND);
+    assert!(kit.volumes().iter().all(|&v| v > 0));
+    assert_eq!(kit.volumes().iter().sum::<i128>(), 408);
+}
+
+#[test]
+fn coplanar_keeps_loses_an_old_node() {
+    let mut kit = wrongly(&CoplanarKeeps, &[[4, 1, 0], [4, 3, 0]]);
+    assert!(!kit.has_corner(8));
+    assert!(!kit.is_mesh());
+}
+
+#[test]
+fn one_round_lets_cells_overlap() {
+    let mut kit = wrongly(&OneRound, HIDDEN_BEHIND);
+    assert!(kit.volumes().iter().all(|&v| v > 0));
+    assert_eq!(kit.volumes().iter().sum::<i128>(), 408);
+}
+
+#[test]
+fn one_at_a_time_makes_another_mesh() {
+    let nodes = [[4, 2, 0], [4, 1, 0]];
+    let mut kit = wrongly(&OneAtATime, &nodes);
+    assert!(kit.is_mesh());
+    assert_ne!(kit, Kit::with(&Document01, &nodes));
+}
+
+/// The two nodes lie evenly about the middle of the box, where the rounded sphere test may answer either way
+/// (examples/listing/two_even_nodes.nodes).
+#[test]
+fn two_even_nodes_are_enough() {
+    let after = |rules: &dyn Rules| {
+        let mut kit = Kit::started([120_000, 80_000, 60_000]);
+        let nodes = [70_000, 30_000, 20_000, 70_000, 30_000, 40_000];
+        let listed = plain::insert_list_with(rules, kit.mesh, &mut kit.tables.lend(), &nodes);
+        assert_eq!(listed.refusal, 0);
+        kit.mesh = listed.mesh;
+        kit
+    };
+    assert!(after(&Document01).is_mesh());
+    assert!(!after(&ZeroVisible).is_mesh());
+    assert!(!after(&LostCornersOnly).is_mesh());
+    assert!(!after(&OneRound).is_mesh());
+    // After one round of the correction a place has two cells.
+    let whole = 6 * 120_000 * 80_000 * 60_000;
+    let sum: i128 = after(&OneRound).volumes().iter().sum();
+    assert_eq!(sum, whole + 72_000_000_000_000);
+}
+
+/// Lists are not checked again after each node: a wrong build goes on with what it left.
+#[test]
+fn every_build_answers_on_its_own_tables() {
+    for build in wrong::ALL {
+        for seed in 0..20 {
+            let mut random = Random::new(seed);
+            let mut kit = Kit::started([8; 3]);
+            let nodes: Vec<u32> = (0..60).map(|_| random.below(9) as u32).collect();
+            let mut tables = kit.tables.lend();
+            let listed = plain::insert_list_with(build.rules, kit.mesh, &mut tables, &nodes);
+            assert!([0, 5, 7, 8].contains(&listed.refusal), "{}", build.name);
+        }
+    }
+}
