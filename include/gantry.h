@@ -2,10 +2,11 @@
  * Gantry cells for C and C++: a mesh of tetrahedra over the nodes of a box, in tables that the caller owns.
  *
  * Every call ends and answers for all numbers handed in; none allocates, keeps a pointer or a state, or prints. What each one
- * answers and leaves in every lent entry is proved (crates/gantry/specs). All memory is the caller's and is lent for one call:
- * a pointer, then the number of entries behind it. A pointer is aligned for its type, and not NULL even where the length is 0; the
- * areas lent to one call do not overlap, and no other thread touches them meanwhile. The caller sees to that: it is assumed, not
- * proved. A call takes less than 40 KiB of stack.
+ * answers and leaves in every lent entry is proved: the promises are in crates/gantry/specs, the numbers in the structures below in
+ * crates/gantry_numbers/specs. All memory is the caller's and is lent for one call: a pointer, then the number of entries behind
+ * it. A pointer is aligned for its type, and not NULL even where the length is 0; the areas lent to one call do not overlap, and no
+ * other thread touches them meanwhile. The caller sees to that: it is assumed, not proved. A call takes less than 40 KiB of stack,
+ * which is not proved either: the gate holds the archive to it.
  *
  * Link with libgantry.a alone ('rt staticlib gantry' writes it, for x86-64 Linux); it takes memcpy and memset from the C library.
  */
@@ -21,7 +22,8 @@ extern "C" {
 #endif
 
 /*
- * Refusals. A refused call changes nothing but the work area. Tests are made in number order, but a file's 9 before its 2.
+ * Refusals. A refusal changes nothing but the work area; a list that stops at a refused node keeps the nodes before it. Tests are
+ * made in number order, but a file's 9 before its 2.
  */
 #define GANTRY_ACCEPTED 0
 #define GANTRY_SHORT 1       /* point capacity below 8, cell capacity below 6, or fewer answer bytes than cells */
@@ -111,11 +113,17 @@ gantry_read gantry_read_nodes(const uint8_t *file, size_t file_len, uint32_t *no
 /* The nodes of a mesh as a node file: 12 bytes a node and 20. Writes the work area and out alone. Refusals 1 2 3 10. */
 gantry_written gantry_write_nodes(gantry_mesh mesh, GANTRY_TABLES, uint8_t *out, size_t out_len);
 
-/* Six times the volume of (a, b, c, d), below 0 where they turn the other way; GANTRY_VOLUME_NONE for a number that is no coordinate. */
+/*
+ * Six times the volume of (a, b, c, d), below 0 where they turn the other way, and within -2^52 to 2^52; GANTRY_VOLUME_NONE for a
+ * number that is no coordinate.
+ */
 int64_t gantry_volume6(int32_t ax, int32_t ay, int32_t az, int32_t bx, int32_t by, int32_t bz,
                        int32_t cx, int32_t cy, int32_t cz, int32_t dx, int32_t dy, int32_t dz);
 
-/* Where p lies from the sphere through a, b, c, d, with T; close is within 2^39. Refusals 4 11. */
+/*
+ * Where p lies from the sphere through a, b, c, d, with T; close is within 2^39. T is a rounded sum: it lies within 2^39 of the
+ * exact one, E, and beyond -2^39 to 2^39 it has E's sign. Refusals 4 11.
+ */
 gantry_sphere gantry_sphere_test(uint32_t ax, uint32_t ay, uint32_t az, uint32_t bx, uint32_t by, uint32_t bz,
                                  uint32_t cx, uint32_t cy, uint32_t cz, uint32_t dx, uint32_t dy, uint32_t dz,
                                  uint32_t px, uint32_t py, uint32_t pz);
