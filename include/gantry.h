@@ -2,11 +2,10 @@
  * Gantry cells for C and C++: a mesh of tetrahedra over the nodes of a box, in tables that the caller owns.
  *
  * Every call ends and answers for all numbers handed in; none allocates, keeps a pointer or a state, or prints. What each one
- * answers and leaves in every lent entry is proved: the promises are in crates/gantry/specs, the numbers in the structures below in
- * crates/gantry_numbers/specs. All memory is the caller's and is lent for one call: a pointer, then the number of entries behind
- * it. A pointer is aligned for its type, and not NULL even where the length is 0; the areas lent to one call do not overlap, and no
- * other thread touches them meanwhile. The caller sees to that: it is assumed, not proved. A call takes less than 40 KiB of stack,
- * which is not proved either: the gate holds the archive to it.
+ * answers and leaves in every lent entry is proved (crates/gantry_numbers/specs). All memory is the caller's and is lent for one
+ * call: a pointer, then the number of entries behind it. A pointer is aligned for its type, and not NULL even where the length is 0;
+ * the areas lent to one call do not overlap, and no other thread touches them meanwhile. The caller sees to that: it is assumed, not
+ * proved. A call takes less than 40 KiB of stack, which is not proved either: the gate holds the archive to it.
  *
  * Link with libgantry.a alone ('rt staticlib gantry' writes it, for x86-64 Linux); it takes memcpy and memset from the C library.
  */

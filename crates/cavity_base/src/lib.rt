@@ -47,6 +47,7 @@ pub fn answer_of(
     }
 }
 
+// One cell more, of T x; of cells with the least T the lowest-numbered one counts.
 fn with_cell(g: Gathered, c: usize, x: f64) -> Gathered
     requires { ⌜ g .size < 4096 ⌝ }
     ensures { λ r. ⌜ r ≡ withCell g c x ⌝ }

@@ -11,12 +11,11 @@ ghost use Rattle.insphere.specs.Sphere.{sphereSum, sphereCall};
 ghost use Rattle.mesh.specs.Tables.{tablesBefore, tablesAfter, cleared};
 ghost use Rattle.mesh.specs.Check.{isMesh};
 ghost use Rattle.cavity.specs.Answers.{sphere, handed};
-ghost use Rattle.gantry_numbers.specs.Numbers.{meshFromC, testedOf};
-ghost use Rattle.gantry.specs.Promises.{Starts, Inserts, Lists, Locates, Reads, Writes, Agrees};
+ghost use Rattle.gantry_numbers.specs.Numbers.{testedOf};
+ghost use Rattle.gantry_numbers.specs.Promises.{Starts, Inserts, Lists, Locates, Reads, Writes, Agrees};
 use gantry_numbers::GantryInserted;
 use gantry_numbers::GantryListed;
 use gantry_numbers::GantryLocated;
-use gantry_numbers::GantryMesh;
 use gantry_numbers::GantryRead;
 use gantry_numbers::GantrySphere;
 use gantry_numbers::GantryStarted;
@@ -27,7 +26,6 @@ use gantry_numbers::located;
 use gantry_numbers::read;
 use gantry_numbers::started;
 use gantry_numbers::tested;
-use gantry_numbers::to_record;
 use gantry_numbers::written;
 use geometry::Position;
 use geometry::volume::volume6;
@@ -36,6 +34,7 @@ use insertion_single::insert;
 use insertion_single::insert_answers;
 use insphere::sphere_test;
 use locate_call::locate;
+use mesh::Mesh;
 use mesh_check::check;
 use mesh_start::start;
 use nodefile_read::read_nodes;
@@ -131,7 +130,7 @@ pub extern "C" fn gantry_start(
 
 #[no_mangle]
 pub extern "C" fn gantry_insert(
-    mesh: GantryMesh,
+    mesh: Mesh,
     points: &mut [u32],
     corners: &mut [u16],
     neighbours: &mut [u16],
@@ -144,13 +143,13 @@ pub extern "C" fn gantry_insert(
         r (tablesAfter points corners neighbours) (now (work .exit)) ⌝ }
 {
     let q = Position { x: x, y: y, z: z };
-    let answer = insert(to_record(mesh), points, corners, neighbours, work, q);
+    let answer = insert(mesh, points, corners, neighbours, work, q);
     inserted(mesh, answer)
 }
 
 #[no_mangle]
 pub extern "C" fn gantry_insert_answers(
-    mesh: GantryMesh,
+    mesh: Mesh,
     points: &mut [u32],
     corners: &mut [u16],
     neighbours: &mut [u16],
@@ -164,21 +163,13 @@ pub extern "C" fn gantry_insert_answers(
         r (tablesAfter points corners neighbours) (now (work .exit)) ⌝ }
 {
     let q = Position { x: x, y: y, z: z };
-    let answer = insert_answers(
-        to_record(mesh),
-        points,
-        corners,
-        neighbours,
-        work,
-        answers,
-        q,
-    );
+    let answer = insert_answers(mesh, points, corners, neighbours, work, answers, q);
     inserted(mesh, answer)
 }
 
 #[no_mangle]
 pub extern "C" fn gantry_insert_list(
-    mesh: GantryMesh,
+    mesh: Mesh,
     points: &mut [u32],
     corners: &mut [u16],
     neighbours: &mut [u16],
@@ -188,13 +179,13 @@ pub extern "C" fn gantry_insert_list(
     ensures { λ r. ⌜ Lists mesh (tablesBefore points corners neighbours) (now (work .entry)) (now (nodes .entry))
         r (tablesAfter points corners neighbours) (now (work .exit)) ⌝ }
 {
-    let answer = insert_list(to_record(mesh), points, corners, neighbours, work, nodes);
+    let answer = insert_list(mesh, points, corners, neighbours, work, nodes);
     listed(mesh, answer)
 }
 
 #[no_mangle]
 pub extern "C" fn gantry_locate(
-    mesh: GantryMesh,
+    mesh: Mesh,
     points: &[u32],
     corners: &[u16],
     neighbours: &[u16],
@@ -207,21 +198,21 @@ pub extern "C" fn gantry_locate(
         r (now (work .exit)) ⌝ }
 {
     let q = Position { x: x, y: y, z: z };
-    located(locate(to_record(mesh), points, corners, neighbours, work, q))
+    located(locate(mesh, points, corners, neighbours, work, q))
 }
 
 #[no_mangle]
 pub extern "C" fn gantry_check(
-    mesh: GantryMesh,
+    mesh: Mesh,
     points: &[u32],
     corners: &[u16],
     neighbours: &[u16],
     work: &mut [u16],
 ) -> bool
-    ensures { λ r. ⌜ (r ≡ isMesh (meshFromC mesh) (tablesBefore points corners neighbours) (length (now (work .entry))))
+    ensures { λ r. ⌜ (r ≡ isMesh mesh (tablesBefore points corners neighbours) (length (now (work .entry))))
         × (now (work .exit) ≡ cleared (now (work .entry))) ⌝ }
 {
-    check(to_record(mesh), points, corners, neighbours, work)
+    check(mesh, points, corners, neighbours, work)
 }
 
 #[no_mangle]
@@ -233,7 +224,7 @@ pub extern "C" fn gantry_read_nodes(file: &[u8], nodes: &mut [u32]) -> GantryRea
 
 #[no_mangle]
 pub extern "C" fn gantry_write_nodes(
-    mesh: GantryMesh,
+    mesh: Mesh,
     points: &[u32],
     corners: &[u16],
     neighbours: &[u16],
@@ -243,5 +234,5 @@ pub extern "C" fn gantry_write_nodes(
     ensures { λ r. ⌜ Writes mesh (tablesBefore points corners neighbours) (now (work .entry)) (now (out .entry))
         r (now (work .exit)) (now (out .exit)) ⌝ }
 {
-    written(write_nodes(to_record(mesh), points, corners, neighbours, work, out))
+    written(write_nodes(mesh, points, corners, neighbours, work, out))
 }

@@ -18,7 +18,6 @@ use Rattle.nodefile.specs.declared.Read.{Read}
 use Rattle.nodefile.specs.declared.Read.the-variants.{Nodes, Refused as ReadRefused}
 use Rattle.nodefile.specs.declared.Written.{Written}
 use Rattle.nodefile.specs.declared.Written.the-variants.{Bytes, Refused as WriteRefused}
-use Rattle.gantry_numbers.specs.declared.GantryMesh.{GantryMesh}
 use Rattle.gantry_numbers.specs.declared.GantryStarted.{GantryStarted}
 use Rattle.gantry_numbers.specs.declared.GantryInserted.{GantryInserted}
 use Rattle.gantry_numbers.specs.declared.GantryListed.{GantryListed}
@@ -27,28 +26,20 @@ use Rattle.gantry_numbers.specs.declared.GantrySphere.{GantrySphere}
 use Rattle.gantry_numbers.specs.declared.GantryRead.{GantryRead}
 use Rattle.gantry_numbers.specs.declared.GantryWritten.{GantryWritten}
 
--- the record that C hands in
-abbrev pub meshFromC : GantryMesh → Mesh
-meshFromC m = record { x = m .x; y = m .y; z = m .z; points = m .points; cells = m .cells }
-
--- and the one that it gets back
-abbrev pub meshToC : Mesh → GantryMesh
-meshToC m = record { x = m .x; y = m .y; z = m .z; points = m .points; cells = m .cells }
-
 -- of a refused start, since no record goes in
-abbrev pub noMesh : GantryMesh
+abbrev pub noMesh : Mesh
 noMesh = record { x = 0; y = 0; z = 0; points = 0; cells = 0 }
 
 unfoldable pub startedOf : Started → GantryStarted
-startedOf (StartAccepted m) = record { refusal = 0; mesh = meshToC m }
+startedOf (StartAccepted m) = record { refusal = 0; mesh = m }
 startedOf (StartRefused e) = record { refusal = e; mesh = noMesh }
 
 -- of a call that was handed the record m, which a refusal leaves as it was
-unfoldable pub insertedOf : GantryMesh → Inserted → GantryInserted
+unfoldable pub insertedOf : Mesh → Inserted → GantryInserted
 insertedOf m (Accepted m′ r) =
     record {
       refusal = 0;
-      mesh = meshToC m′;
+      mesh = m′;
       point = r .point;
       before = r .before;
       after = r .after;
@@ -59,9 +50,9 @@ insertedOf m (Refused e) =
     record { refusal = e; mesh = m; point = 0; before = 0; after = 0; made = 0; least = zeroFloat }
 
 -- the place is that of the refused node, or how many went in; a stopped list has the record that its last accepted node left
-unfoldable pub listedOf : GantryMesh → Listed → GantryListed
-listedOf m (Ended m′ count) = record { refusal = 0; mesh = meshToC m′; place = count }
-listedOf m (Stopped m′ place e) = record { refusal = e; mesh = meshToC m′; place = place }
+unfoldable pub listedOf : Mesh → Listed → GantryListed
+listedOf m (Ended m′ count) = record { refusal = 0; mesh = m′; place = count }
+listedOf m (Stopped m′ place e) = record { refusal = e; mesh = m′; place = place }
 listedOf m (ListRefused e) = record { refusal = e; mesh = m; place = 0 }
 
 unfoldable pub locatedOf : Located → GantryLocated

@@ -2,7 +2,7 @@
 // field order and layouts are fixed.
 
 ghost use mathlib.Core.Path.{_≡_};
-ghost use Rattle.gantry_numbers.specs.Numbers.{meshFromC, meshToC, noMesh, startedOf, insertedOf, listedOf, locatedOf, sphereOf, testedOf, readOf, writtenOf};
+ghost use Rattle.gantry_numbers.specs.Numbers.{noMesh, startedOf, insertedOf, listedOf, locatedOf, sphereOf, testedOf, readOf, writtenOf};
 use insertion::Inserted;
 use insertion::Listed;
 use insphere::Sphere;
@@ -13,27 +13,18 @@ use mesh::Started;
 use nodefile::Read;
 use nodefile::Written;
 
-#[repr(C)]
-pub struct GantryMesh {
-    pub x: u32,
-    pub y: u32,
-    pub z: u32,
-    pub points: u32,
-    pub cells: u32,
-}
-
 // In each answer, refusal is 0 where the call was accepted, and a field that a refusal leaves without meaning is 0.
 
 #[repr(C)]
 pub struct GantryStarted {
     pub refusal: u8,
-    pub mesh: GantryMesh,
+    pub mesh: Mesh,
 }
 
 #[repr(C)]
 pub struct GantryInserted {
     pub refusal: u8,
-    pub mesh: GantryMesh,
+    pub mesh: Mesh,
     pub point: u32,
     pub before: u32,
     pub after: u32,
@@ -45,7 +36,7 @@ pub struct GantryInserted {
 #[repr(C)]
 pub struct GantryListed {
     pub refusal: u8,
-    pub mesh: GantryMesh,
+    pub mesh: Mesh,
     pub place: u32,
 }
 
@@ -78,34 +69,10 @@ pub struct GantryWritten {
     pub bytes: u32,
 }
 
-pub fn to_record(mesh: GantryMesh) -> Mesh
-    ensures { λ r. ⌜ r ≡ meshFromC mesh ⌝ }
-{
-    Mesh {
-        x: mesh.x,
-        y: mesh.y,
-        z: mesh.z,
-        points: mesh.points,
-        cells: mesh.cells,
-    }
-}
-
-fn from_record(mesh: Mesh) -> GantryMesh
-    ensures { λ r. ⌜ r ≡ meshToC mesh ⌝ }
-{
-    GantryMesh {
-        x: mesh.x,
-        y: mesh.y,
-        z: mesh.z,
-        points: mesh.points,
-        cells: mesh.cells,
-    }
-}
-
-fn no_mesh() -> GantryMesh
+fn no_mesh() -> Mesh
     ensures { λ r. ⌜ r ≡ noMesh ⌝ }
 {
-    GantryMesh {
+    Mesh {
         x: 0,
         y: 0,
         z: 0,
@@ -120,7 +87,7 @@ pub fn started(answer: Started) -> GantryStarted
     match answer {
         Started::Accepted(mesh) => GantryStarted {
             refusal: 0,
-            mesh: from_record(mesh),
+            mesh: mesh,
         },
         Started::Refused(number) => GantryStarted {
             refusal: number,
@@ -129,13 +96,13 @@ pub fn started(answer: Started) -> GantryStarted
     }
 }
 
-pub fn inserted(mesh: GantryMesh, answer: Inserted) -> GantryInserted
+pub fn inserted(mesh: Mesh, answer: Inserted) -> GantryInserted
     ensures { λ r. ⌜ r ≡ insertedOf mesh answer ⌝ }
 {
     match answer {
         Inserted::Accepted(next, report) => GantryInserted {
             refusal: 0,
-            mesh: from_record(next),
+            mesh: next,
             point: report.point,
             before: report.before,
             after: report.after,
@@ -154,18 +121,18 @@ pub fn inserted(mesh: GantryMesh, answer: Inserted) -> GantryInserted
     }
 }
 
-pub fn listed(mesh: GantryMesh, answer: Listed) -> GantryListed
+pub fn listed(mesh: Mesh, answer: Listed) -> GantryListed
     ensures { λ r. ⌜ r ≡ listedOf mesh answer ⌝ }
 {
     match answer {
         Listed::Ended(next, count) => GantryListed {
             refusal: 0,
-            mesh: from_record(next),
+            mesh: next,
             place: count,
         },
         Listed::Stopped(next, place, number) => GantryListed {
             refusal: number,
-            mesh: from_record(next),
+            mesh: next,
             place: place,
         },
         Listed::Refused(number) => GantryListed {

@@ -1,10 +1,9 @@
-// The listing of a file, with the tables lent.
+// The listing of a box with nodes, with the tables lent.
 
 ghost use Prim.Native.Nat.{_≤_};
 ghost use lib.ListN.{length};
 ghost use Rattle.mesh.specs.Tables.{tablesIn, tablesBefore};
-ghost use Rattle.nodefile.specs.Read.{nodes as fileNodes, readAnswer};
-ghost use Rattle.lines.specs.Listing.{nodesText, boxText, readText};
+ghost use Rattle.lines.specs.Listing.{nodesText, boxText};
 ghost use Rattle.lines.specs.Inner.{Wrote, FromStart, longest};
 use insertion_list::insert_list;
 use lines_listed::write_listed;
@@ -12,8 +11,6 @@ use lines_listed::write_refused;
 use mesh::Mesh;
 use mesh::Started;
 use mesh_start::start;
-use nodefile::Read;
-use nodefile_read::read_nodes;
 
 // The listing of a started box with these nodes.
 fn list_started(
@@ -34,7 +31,7 @@ fn list_started(
 }
 
 // The listing of a box with these nodes.
-fn list_nodes(
+pub fn list_nodes(
     x: u32,
     y: u32,
     z: u32,
@@ -55,39 +52,5 @@ fn list_nodes(
             list_started(mesh, points, corners, neighbours, work, nodes, out)
         }
         Started::Refused(number) => write_refused(number, out),
-    }
-}
-
-// The listing of a file, with the tables and the nodes' place lent.
-pub fn list_file(
-    file: &[u8],
-    points: &mut [u32],
-    corners: &mut [u16],
-    neighbours: &mut [u16],
-    work: &mut [u16],
-    nodes: &mut [u32],
-    out: &mut [u8],
-) -> usize
-    requires { ⌜ longest ≤ length (now out) ⌝ }
-    ensures { λ r. ⌜ Wrote (readText (readAnswer (now (file .entry)) (length (now (nodes .entry)))) (tablesBefore points corners neighbours) (length (now (work .entry))) (fileNodes (now (file .entry))))
-        (now (out .entry)) 0 r (now (out .exit)) ⌝ }
-{
-    let answer = read_nodes(file, nodes);
-    match answer {
-        Read::Nodes(header) => {
-            let end = 3 * header.count as usize;
-            list_nodes(
-                header.x,
-                header.y,
-                header.z,
-                points,
-                corners,
-                neighbours,
-                work,
-                &nodes[..end],
-                out,
-            )
-        }
-        Read::Refused(number) => write_refused(number, out),
     }
 }

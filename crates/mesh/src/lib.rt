@@ -1,6 +1,7 @@
 // The mesh record, its lent tables, what a mesh is, and what a start leaves. Definitions and laws: the code is in the crates mesh_*.
 
-// Sides, point count and cell count.
+// Sides, point count and cell count; C has it as gantry_mesh (include/gantry.h), whose layout is fixed.
+#[repr(C)]
 pub struct Mesh {
     pub x: u32,
     pub y: u32,

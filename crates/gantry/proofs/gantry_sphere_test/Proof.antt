@@ -1,15 +1,14 @@
-use borrow.Author.Needs.{needs}
 use Rattle.gantry.proofs.gantry_sphere_test.Statement.{statement}
 use Rattle.gantry.proofs.gantry_sphere_test.Tie as tie
 use mathlib.Core.Path.{ap, _∙_}
 use Rattle.gantry_numbers.specs.Numbers.{testedOf}
-use Rattle.gantry.proofs.Handing.{agrees}
+use Rattle.gantry_numbers.proofs.Handing.{agrees}
 
 sphere-test-requires : tie.Need-sphere-test-requires
-sphere-test-requires c κs = search needs
+sphere-test-requires c κs = tt
 
 tested-requires : tie.Need-tested-requires
-tested-requires c κs = search needs
+tested-requires c κs = tt
 
 returns : tie.Need-returns
 returns c =

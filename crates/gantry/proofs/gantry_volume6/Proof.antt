@@ -3,12 +3,11 @@ use mathlib.Core.Path.{sym, _∙_, subst}
 use lib.IntN.{natAbs}
 use mir.Syntax.{w64}
 use mir.Facts.{toZ-ofZ}
-use borrow.Author.Needs.{needs}
 use Rattle.gantry.proofs.gantry_volume6.Statement.{statement}
 use Rattle.gantry.proofs.gantry_volume6.Tie as tie
 
 volume6-requires : tie.Need-volume6-requires
-volume6-requires c κs = search needs
+volume6-requires c κs = tt
 
 returns : tie.Need-returns
 returns c =

@@ -8,15 +8,12 @@ use Rattle.gantry_numbers.specs.Numbers.{insertedOf}
 enum-known-answer : tie.Need-enum-known-answer
 enum-known-answer c = search needs
 
-from-record-requires : tie.Need-from-record-requires
-from-record-requires c κs = search needs
-
 enum-known-answer-2 : tie.Need-enum-known-answer-2
 enum-known-answer-2 c = search needs
 
 returns : tie.Need-returns
 unfolding insertedOf
-returns c = rw (c .from-record .ensures) (sym (ap (insertedOf (c .before .before .before .before .args .mesh)) (c .before .before .answer .given .1)))
+returns c = sym (ap (insertedOf (c .before .before .before .args .mesh)) (c .before .answer .given .1))
 
 returns-2 : tie.Need-returns-2
 unfolding insertedOf ofBits
@@ -25,4 +22,4 @@ returns-2 c = sym (ap (insertedOf (c .before .before .before .args .mesh)) (c .b
 pub inserted-spec : {M : Type 1} → statement M
 inserted-spec =
     tie.close
-    (tie.spec enum-known-answer from-record-requires enum-known-answer-2 returns returns-2)
+    (tie.spec enum-known-answer enum-known-answer-2 returns returns-2)

@@ -7,25 +7,19 @@ use Rattle.gantry_numbers.specs.Numbers.{listedOf}
 enum-known-answer : tie.Need-enum-known-answer
 enum-known-answer c = search needs
 
-from-record-requires : tie.Need-from-record-requires
-from-record-requires c κs = search needs
-
 enum-known-answer-2 : tie.Need-enum-known-answer-2
 enum-known-answer-2 c = search needs
-
-from-record-requires-2 : tie.Need-from-record-requires-2
-from-record-requires-2 c κs = search needs
 
 enum-known-answer-3 : tie.Need-enum-known-answer-3
 enum-known-answer-3 c = search needs
 
 returns : tie.Need-returns
 unfolding listedOf
-returns c = rw (c .from-record .ensures) (sym (ap (listedOf (c .before .before .before .before .args .mesh)) (c .before .before .answer .given .1)))
+returns c = sym (ap (listedOf (c .before .before .before .args .mesh)) (c .before .answer .given .1))
 
 returns-2 : tie.Need-returns-2
 unfolding listedOf
-returns-2 c = rw (c .from-record2 .ensures) (sym (ap (listedOf (c .before .before .before .before .args .mesh)) (c .before .before .answer2 .given .1)))
+returns-2 c = sym (ap (listedOf (c .before .before .before .args .mesh)) (c .before .answer2 .given .1))
 
 returns-3 : tie.Need-returns-3
 unfolding listedOf
@@ -36,9 +30,7 @@ listed-spec =
     tie.close
     (tie.spec
     enum-known-answer
-    from-record-requires
     enum-known-answer-2
-    from-record-requires-2
     enum-known-answer-3
     returns
     returns-2

@@ -7,9 +7,6 @@ use Rattle.gantry_numbers.specs.Numbers.{startedOf}
 enum-known-answer : tie.Need-enum-known-answer
 enum-known-answer c = search needs
 
-from-record-requires : tie.Need-from-record-requires
-from-record-requires c κs = search needs
-
 enum-known-answer-2 : tie.Need-enum-known-answer-2
 enum-known-answer-2 c = search needs
 
@@ -18,7 +15,7 @@ no-mesh-requires c κs = search needs
 
 returns : tie.Need-returns
 unfolding startedOf
-returns c = rw (c .from-record .ensures) (sym (ap startedOf (c .before .before .answer .given .1)))
+returns c = sym (ap startedOf (c .before .answer .given .1))
 
 returns-2 : tie.Need-returns-2
 unfolding startedOf
@@ -29,7 +26,6 @@ started-spec =
     tie.close
     (tie.spec
     enum-known-answer
-    from-record-requires
     enum-known-answer-2
     no-mesh-requires
     returns

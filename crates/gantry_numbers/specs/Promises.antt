@@ -8,6 +8,7 @@ use lib.Signed.{_<ℤ_}
 use lib.ListN.{length}
 use Rattle.rounding.specs.Whole.{Near}
 use Rattle.geometry.specs.declared.Position.{Position}
+use Rattle.mesh.specs.declared.Mesh.{Mesh}
 use Rattle.mesh.specs.Tables.{Tables, cleared}
 use Rattle.mesh.specs.Start.{startAnswer, startTables}
 use Rattle.locate.specs.Locate.{locateCall}
@@ -16,15 +17,14 @@ use Rattle.insertion.specs.Insertion.{insertCall}
 use Rattle.insertion.specs.List.{listCall}
 use Rattle.nodefile.specs.Read.{readAnswer, readOutput}
 use Rattle.nodefile.specs.Write.{writeAnswer, writeOutput}
-use Rattle.gantry_numbers.specs.declared.GantryMesh.{GantryMesh}
 use Rattle.gantry_numbers.specs.declared.GantryStarted.{GantryStarted}
 use Rattle.gantry_numbers.specs.declared.GantryInserted.{GantryInserted}
 use Rattle.gantry_numbers.specs.declared.GantryListed.{GantryListed}
 use Rattle.gantry_numbers.specs.declared.GantryLocated.{GantryLocated}
 use Rattle.gantry_numbers.specs.declared.GantrySphere.{GantrySphere}
 use Rattle.gantry_numbers.specs.declared.GantryRead.{GantryRead}
 use Rattle.gantry_numbers.specs.declared.GantryWritten.{GantryWritten}
-use Rattle.gantry_numbers.specs.Numbers.{meshFromC, startedOf, insertedOf, listedOf, locatedOf, readOf, writtenOf}
+use Rattle.gantry_numbers.specs.Numbers.{startedOf, insertedOf, listedOf, locatedOf, readOf, writtenOf}
 
 -- tables t and a work area ws are lent, and left as t′ and ws′; a refusal, too, is one of the definitions' cases
 pub record Starts (X Y Z : ℕ) (t : Tables) (ws : List ℕ) (r : GantryStarted) (t′ : Tables) (ws′ : List ℕ) : Type 0 where
@@ -32,28 +32,28 @@ pub record Starts (X Y Z : ℕ) (t : Tables) (ws : List ℕ) (r : GantryStarted)
   pub tables : t′ ≡ startTables X Y Z t (length ws)
   pub work : ws′ ≡ cleared ws
 
-pub record Inserts (m : GantryMesh) (t : Tables) (ws : List ℕ) (p : Position) (a : Answers)
+pub record Inserts (m : Mesh) (t : Tables) (ws : List ℕ) (p : Position) (a : Answers)
     (r : GantryInserted) (t′ : Tables) (ws′ : List ℕ) : Type 0 where
-  pub answer : r ≡ insertedOf m (insertCall (meshFromC m) t (length ws) p a .answer)
-  pub tables : t′ ≡ insertCall (meshFromC m) t (length ws) p a .tables
+  pub answer : r ≡ insertedOf m (insertCall m t (length ws) p a .answer)
+  pub tables : t′ ≡ insertCall m t (length ws) p a .tables
   pub work : ws′ ≡ cleared ws
 
-pub record Lists (m : GantryMesh) (t : Tables) (ws ns : List ℕ) (r : GantryListed) (t′ : Tables) (ws′ : List ℕ) : Type 0 where
-  pub answer : r ≡ listedOf m (listCall (meshFromC m) t (length ws) ns .answer)
-  pub tables : t′ ≡ listCall (meshFromC m) t (length ws) ns .tables
+pub record Lists (m : Mesh) (t : Tables) (ws ns : List ℕ) (r : GantryListed) (t′ : Tables) (ws′ : List ℕ) : Type 0 where
+  pub answer : r ≡ listedOf m (listCall m t (length ws) ns .answer)
+  pub tables : t′ ≡ listCall m t (length ws) ns .tables
   pub work : ws′ ≡ cleared ws
 
-pub record Locates (m : GantryMesh) (t : Tables) (ws : List ℕ) (p : Position) (r : GantryLocated) (ws′ : List ℕ) : Type 0 where
-  pub answer : r ≡ locatedOf (locateCall (meshFromC m) t (length ws) p)
+pub record Locates (m : Mesh) (t : Tables) (ws : List ℕ) (p : Position) (r : GantryLocated) (ws′ : List ℕ) : Type 0 where
+  pub answer : r ≡ locatedOf (locateCall m t (length ws) p)
   pub work : ws′ ≡ cleared ws
 
 pub record Reads (file out : List ℕ) (r : GantryRead) (out′ : List ℕ) : Type 0 where
   pub answer : r ≡ readOf (readAnswer file (length out))
   pub output : out′ ≡ readOutput file out
 
-pub record Writes (m : GantryMesh) (t : Tables) (ws out : List ℕ) (r : GantryWritten) (ws′ out′ : List ℕ) : Type 0 where
-  pub answer : r ≡ writtenOf (writeAnswer (meshFromC m) t (length ws) (length out))
-  pub output : out′ ≡ writeOutput (meshFromC m) t (length ws) out
+pub record Writes (m : Mesh) (t : Tables) (ws out : List ℕ) (r : GantryWritten) (ws′ out′ : List ℕ) : Type 0 where
+  pub answer : r ≡ writtenOf (writeAnswer m t (length ws) (length out))
+  pub output : out′ ≡ writeOutput m t (length ws) out
   pub work : ws′ ≡ cleared ws
 
 -- what the sphere test's answer tells of the exact sum e: T lies within 2^39 of it, and beyond ±2^39 has its sign
