@@ -21,20 +21,20 @@ extern "C" {
 #endif
 
 /*
- * Refusals. A refusal changes nothing but the work area; a list that stops at a refused node keeps the nodes before it. Tests are
- * made in number order, but a file's 9 before its 2.
+ * Refusals; docs/MANUAL.md says what to do about each. A refusal changes nothing but the work area; a list that stops at a refused
+ * node keeps the nodes before it. Tests are made in number order, but a file's 9 before its 2.
  */
 #define GANTRY_ACCEPTED 0
-#define GANTRY_SHORT 1       /* point capacity below 8, cell capacity below 6, or fewer answer bytes than cells */
-#define GANTRY_BOX 2         /* a side is 0 or above 131072 */
+#define GANTRY_SHORT 1       /* room for fewer than 8 points or 6 cells, or fewer answer bytes than cells */
+#define GANTRY_BOX 2         /* a side is 0 or above 131,072 */
 #define GANTRY_NO_MESH 3     /* record and tables fail the mesh check */
-#define GANTRY_OUTSIDE 4     /* a position outside the box; in the sphere test, a coordinate above 131072 */
+#define GANTRY_OUTSIDE 4     /* a position outside the box; in the sphere test, a coordinate above 131,072 */
 #define GANTRY_TAKEN 5       /* a point is already there */
-#define GANTRY_POINTS_FULL 6 /* the point count equals the point capacity */
+#define GANTRY_POINTS_FULL 6 /* there is no room for a further point */
 #define GANTRY_UNHELD 7      /* no cell holds the position */
-#define GANTRY_CELLS_FULL 8  /* old cells and new ones together exceed the cell capacity */
-#define GANTRY_TRAILER 9     /* a file under 20 bytes, or with a wrong count or distance */
-#define GANTRY_NO_PLACE 10   /* the lent output is shorter than what is to be written */
+#define GANTRY_CELLS_FULL 8  /* the old cells and the new ones together exceed the room for cells */
+#define GANTRY_TRAILER 9     /* a file under 20 bytes, or a wrong count or distance in its trailer */
+#define GANTRY_NO_PLACE 10   /* the output is shorter than what is to be written */
 #define GANTRY_FLAT_CELL 11  /* a sphere test on a cell of volume 0 or less */
 
 /* Sphere answers; 0 in a refusal. */
@@ -43,7 +43,7 @@ extern "C" {
 #define GANTRY_SPHERE_CLOSE 3
 
 #define GANTRY_NONE 65535                      /* in the neighbour table: no neighbour */
-#define GANTRY_VOLUME_NONE ((int64_t)1 << 62)  /* gantry_volume6 with a coordinate outside 0 to 131072 */
+#define GANTRY_VOLUME_NONE ((int64_t)1 << 62)  /* gantry_volume6 with a coordinate outside 0 to 131,072 */
 
 /*
  * The record of a mesh: sides, point count, cell count. The caller keeps it beside the tables, hands it to each call, and goes on
@@ -71,8 +71,8 @@ typedef struct { uint8_t refusal; uint32_t bytes; } gantry_written;
  *   neighbours  4 entries a cell: neighbour i lies across the face opposite corner i; GANTRY_NONE at a wall.
  *   work        3 entries a cell, of any content. Every call that is lent one sets all of it to 0, accepted or refused.
  *
- * A length is in entries, not in bytes. points_len / 3 is the point capacity: 8 or more, and 1024 at most are used. The least of
- * corners_len / 4, neighbours_len / 4 and work_len / 3 is the cell capacity: 6 or more, and 4096 at most are used. An insertion
+ * A length is in entries, not in bytes. points_len / 3 is the room for points: 8 or more, and 1,024 at most are used. The least of
+ * corners_len / 4, neighbours_len / 4 and work_len / 3 is the room for cells: 6 or more, and 4,096 at most are used. An insertion
  * counts the old cells and the new ones together, so leave room for more cells than the mesh ends with. Entries past the mesh's
  * own may hold anything.
  */

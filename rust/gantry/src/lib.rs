@@ -1,9 +1,9 @@
 //! Safe bindings over `libgantry.a`, the proved builder of tetrahedra (*cells*) over nodes in a box.
 //!
 //! A [`Mesh`] owns the tables that the archive's calls are lent. Only those calls write them, so a `Mesh` is a mesh after
-//! every list of calls: that is what is proved of the archive. Every call answers for all input; a refusal has the number
-//! and name of document 01's table ([`Refusal`]). A refusal changes nothing but the work area; a list that stops at a
-//! refused node keeps the nodes before it.
+//! every list of calls: that is what is proved of the archive. Every call answers for all input; a refusal has its number,
+//! its name and the words of `docs/MANUAL.md` ([`Refusal`]). A refusal changes nothing but the work area; a list that
+//! stops at a refused node keeps the nodes before it.
 //!
 //! Coordinates are whole steps: positions are three unsigned numbers, and a box runs from 0 to its sides, ends included.
 //!
@@ -37,12 +37,19 @@
 //! let [x, y, z] = read.sides;
 //! let mut again = Mesh::start(x, y, z)?;
 //! again.insert_list(&read.nodes)?;
-//! assert!(again.cells().eq(mesh.cells()));
+//! assert_eq!(again, mesh);
 //! # Ok(())
 //! # }
 //! ```
 //!
-//! # Linking
+//! # Adding it to a program
+//!
+//! The crate is not in a registry; `Cargo.toml` names it by its path, and Rust is 1.88 or later, on x86-64 Linux:
+//!
+//! ```toml
+//! [dependencies]
+//! gantry = { path = "../porchdittany/rust/gantry" }
+//! ```
 //!
 //! The build looks for `libgantry.a` in the directory that `GANTRY_ARCHIVE_DIR` names, else in the repository's
 //! `target/staticlib`, where `rt staticlib gantry` puts it.

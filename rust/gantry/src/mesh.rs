@@ -41,25 +41,38 @@ pub struct Cell {
     pub neighbours: [Option<usize>; 4],
 }
 
-/// What an accepted insertion reports. A *spot* is the cells that the new ones replace.
+/// What an accepted insertion reports. The *cavity* is the cells that the new ones replace.
 #[derive(Clone, Copy, Debug, PartialEq)]
 pub struct Report {
     /// The new point's number.
     pub point: usize,
-    /// The spot's size before its correction.
+    /// The cavity's size before its correction.
     pub before: usize,
-    /// The spot's size after it.
+    /// The cavity's size after it.
     pub after: usize,
     /// How many cells were made.
     pub made: usize,
-    /// The least float sum T of the sphere test over the spot before correction; 0 for answers handed in.
+    /// The least float sum T of the sphere test over the cavity before correction; 0 for answers handed in.
     pub least: f64,
 }
 
 /// Cells over the nodes of a box, with their tables.
 ///
 /// All calls take `&mut self`, [`locate`](Mesh::locate) and [`check`](Mesh::check) too: each is lent the work area.
-#[derive(Clone)]
+///
+/// Two are equal where box, room and all table entries are: then every call answers alike on both.
+///
+/// ```
+/// use gantry::Mesh;
+///
+/// let (mut one, mut other) = (Mesh::start(4, 4, 4)?, Mesh::start(4, 4, 4)?);
+/// one.insert([1, 2, 3])?;
+/// assert_ne!(one, other);
+/// other.insert([1, 2, 3])?;
+/// assert_eq!(one, other);
+/// # Ok::<(), gantry::Refusal>(())
+/// ```
+#[derive(Clone, PartialEq, Eq)]
 pub struct Mesh {
     record: raw::Record,
     points: Vec<u32>,
@@ -150,8 +163,9 @@ impl Mesh {
         self.take(inserted)
     }
 
-    /// Inserts one node by answers handed in: a byte a cell, nonzero for a cell that is to be in the spot. Any answers
-    /// leave a mesh. Refused as [`insert`](Mesh::insert) is, and with [`Refusal::Short`] for fewer bytes than cells.
+    /// Inserts one node by answers handed in: a byte a cell, nonzero where the node counts as inside the cell's sphere.
+    /// Any answers leave a mesh. Refused as [`insert`](Mesh::insert) is, and with [`Refusal::Short`] for fewer bytes than
+    /// cells.
     ///
     /// ```
     /// use gantry::Mesh;
@@ -178,7 +192,7 @@ impl Mesh {
     /// assert_eq!(mesh.insert_list(&[[1, 2, 3], [2, 2, 0]]), Ok(2));
     /// let stopped = mesh.insert_list(&[[2, 2, 2], [1, 2, 3], [3, 3, 3]]).unwrap_err();
     /// assert_eq!(stopped, Stopped { place: 1, refusal: Refusal::Taken });
-    /// assert_eq!(stopped.to_string(), "stopped at node 1: refused 5 (taken)");
+    /// assert_eq!(stopped.to_string(), "stopped at node 1: refused 5 (taken): a point is already there");
     /// assert_eq!(mesh.points().len(), 11);
     /// # Ok::<(), Refusal>(())
     /// ```

@@ -1,10 +1,24 @@
-//! The C interface of `gantry.h`: its structs, and one function over each call that is lent slices. All `unsafe` of this
-//! crate is here.
+//! The calls of `gantry.h` over tables of one's own: its structs, and one safe function a call that is lent slices. A
+//! [`Mesh`](crate::Mesh) keeps record and tables together and is what most programs want; this is for tables that live
+//! elsewhere, are shorter, or come from another builder.
 //!
 //! The slices may have any length and content, and the record any numbers: each call answers for all input, and reads and
-//! writes nothing but what it is lent. A field that a refusal leaves without meaning is 0; `refusal` 0 is accepted.
+//! writes nothing but what it is lent. A field that a refusal leaves without meaning is 0; `refusal` 0 is accepted. All
+//! `unsafe` of this crate is here.
+//!
+//! ```
+//! use gantry::raw::{self, Tables};
+//!
+//! let (mut points, mut corners, mut neighbours, mut work) = ([0; 3 * 9], [0; 4 * 18], [0; 4 * 18], [0; 3 * 18]);
+//! let mut tables = Tables { points: &mut points, corners: &mut corners, neighbours: &mut neighbours, work: &mut work };
+//! let started = raw::start([4, 4, 4], &mut tables);
+//! assert_eq!(started.refusal, 0);
+//! let inserted = raw::insert(started.mesh, &mut tables, [1, 2, 3]);
+//! assert_eq!((inserted.refusal, inserted.mesh.cells), (0, 12));
+//! assert!(raw::check(inserted.mesh, &mut tables));
+//! ```
 
-#![allow(unsafe_code, missing_docs)]
+#![allow(unsafe_code)]
 
 use crate::Position;
 
@@ -12,10 +26,15 @@ use crate::Position;
 #[repr(C)]
 #[derive(Clone, Copy, Debug, Default, PartialEq, Eq)]
 pub struct Record {
+    /// The box's side along x.
     pub x: u32,
+    /// The box's side along y.
     pub y: u32,
+    /// The box's side along z.
     pub z: u32,
+    /// The point count, the eight box corners among them.
     pub points: u32,
+    /// The cell count.
     pub cells: u32,
 }
 
@@ -23,7 +42,9 @@ pub struct Record {
 #[repr(C)]
 #[derive(Clone, Copy, Debug)]
 pub struct Started {
+    /// 0 for accepted, else the refusal's number.
     pub refusal: u8,
+    /// The record of the started mesh; zeros where refused.
     pub mesh: Record,
 }
 
@@ -31,21 +52,31 @@ pub struct Started {
 #[repr(C)]
 #[derive(Clone, Copy, Debug)]
 pub struct Inserted {
+    /// 0 for accepted, else the refusal's number.
     pub refusal: u8,
+    /// The record to go on with, also after a refusal.
     pub mesh: Record,
+    /// The new point's number.
     pub point: u32,
+    /// The cavity's size before its correction.
     pub before: u32,
+    /// The cavity's size after it.
     pub after: u32,
+    /// How many cells were made.
     pub made: u32,
+    /// The least T over the cavity before correction; 0 for answers handed in.
     pub least: f64,
 }
 
-/// `gantry_listed`: `place` is the refused node's, or how many nodes went in.
+/// `gantry_listed`
 #[repr(C)]
 #[derive(Clone, Copy, Debug)]
 pub struct Listed {
+    /// 0 for accepted, else the refusal's number.
     pub refusal: u8,
+    /// The record to go on with, also after a refusal.
     pub mesh: Record,
+    /// The refused node's place in the list, or how many nodes went in.
     pub place: u32,
 }
 
@@ -53,16 +84,21 @@ pub struct Listed {
 #[repr(C)]
 #[derive(Clone, Copy, Debug)]
 pub struct Located {
+    /// 0 for accepted, else the refusal's number.
     pub refusal: u8,
+    /// The cell's number.
     pub cell: u32,
 }
 
-/// `gantry_sphere`: `answer` is 1 inside, 2 outside, 3 close.
+/// `gantry_sphere`
 #[repr(C)]
 #[derive(Clone, Copy, Debug)]
 pub struct Sphere {
+    /// 0 for accepted, else the refusal's number.
     pub refusal: u8,
+    /// 1 inside, 2 outside, 3 close.
     pub answer: u8,
+    /// The float sum T.
     pub t: f64,
 }
 
@@ -70,10 +106,15 @@ pub struct Sphere {
 #[repr(C)]
 #[derive(Clone, Copy, Debug)]
 pub struct Read {
+    /// 0 for accepted, else the refusal's number.
     pub refusal: u8,
+    /// The box's side along x.
     pub x: u32,
+    /// The box's side along y.
     pub y: u32,
+    /// The box's side along z.
     pub z: u32,
+    /// How many nodes were read.
     pub count: u32,
 }
 
@@ -81,15 +122,22 @@ pub struct Read {
 #[repr(C)]
 #[derive(Clone, Copy, Debug)]
 pub struct Written {
+    /// 0 for accepted, else the refusal's number.
     pub refusal: u8,
+    /// How many bytes were written.
     pub bytes: u32,
 }
 
-/// The four tables that every call on a mesh is lent.
+/// The four tables that every call on a mesh is lent. A third of the points' length is the room for points, the least of a
+/// quarter of the corners', a quarter of the neighbours' and a third of the work area's the room for cells.
 pub struct Tables<'a> {
+    /// Three entries a point: x, y, z.
     pub points: &'a mut [u32],
+    /// Four entries a cell: the point numbers of its corners.
     pub corners: &'a mut [u16],
+    /// Four entries a cell: neighbour i lies across the face opposite corner i; 65,535 at a wall.
     pub neighbours: &'a mut [u16],
+    /// Three entries a cell, of any content: zero after every call.
     pub work: &'a mut [u16],
 }
 
@@ -168,26 +216,31 @@ macro_rules! call {
     }};
 }
 
+/// `gantry_volume6`: six times the volume of four points; 2^62 for a coordinate outside 0 to 131,072.
 pub fn volume6([a, b, c, d]: [[i32; 3]; 4]) -> i64 {
     gantry_volume6(
         a[0], a[1], a[2], b[0], b[1], b[2], c[0], c[1], c[2], d[0], d[1], d[2],
     )
 }
 
+/// `gantry_sphere_test`: where a position lies to the sphere through four corners. Refusals 4 11.
 pub fn sphere_test([a, b, c, d]: [Position; 4], p: Position) -> Sphere {
     gantry_sphere_test(
         a[0], a[1], a[2], b[0], b[1], b[2], c[0], c[1], c[2], d[0], d[1], d[2], p[0], p[1], p[2],
     )
 }
 
+/// `gantry_start`: the eight corners and six cells of a box. Refusals 1 2.
 pub fn start([x, y, z]: Position, tables: &mut Tables) -> Started {
     call!(gantry_start(x, y, z; tables;))
 }
 
+/// `gantry_insert`: one node, by the float sphere test. Refusals 1 to 8.
 pub fn insert(mesh: Record, tables: &mut Tables, [x, y, z]: Position) -> Inserted {
     call!(gantry_insert(mesh; tables; x, y, z))
 }
 
+/// `gantry_insert_answers`: one node, by a byte a cell, nonzero for inside its sphere. Refusals 1 to 8.
 pub fn insert_answers(
     mesh: Record,
     tables: &mut Tables,
@@ -197,23 +250,28 @@ pub fn insert_answers(
     call!(gantry_insert_answers(mesh; tables; answers.as_ptr(), answers.len(), x, y, z))
 }
 
+/// `gantry_insert_list`: nodes, three numbers each, up to the first that is refused. Refusals 1 to 8.
 pub fn insert_list(mesh: Record, tables: &mut Tables, nodes: &[u32]) -> Listed {
     call!(gantry_insert_list(mesh; tables; nodes.as_ptr(), nodes.len()))
 }
 
+/// `gantry_locate`: the lowest-numbered cell that holds a position. Refusals 1 2 3 4 7.
 pub fn locate(mesh: Record, tables: &mut Tables, [x, y, z]: Position) -> Located {
     call!(gantry_locate(mesh; tables; x, y, z))
 }
 
+/// `gantry_check`: whether record and tables are a mesh.
 pub fn check(mesh: Record, tables: &mut Tables) -> bool {
     call!(gantry_check(mesh; tables;))
 }
 
+/// `gantry_read_nodes`: the sides and nodes of a node file, three numbers a node. Refusals 9 2 10.
 pub fn read_nodes(file: &[u8], nodes: &mut [u32]) -> Read {
     // SAFETY: as in `call`.
     unsafe { gantry_read_nodes(file.as_ptr(), file.len(), nodes.as_mut_ptr(), nodes.len()) }
 }
 
+/// `gantry_write_nodes`: the nodes of a mesh as a node file. Refusals 1 2 3 10.
 pub fn write_nodes(mesh: Record, tables: &mut Tables, out: &mut [u8]) -> Written {
     call!(gantry_write_nodes(mesh; tables; out.as_mut_ptr(), out.len()))
 }

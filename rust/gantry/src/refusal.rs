@@ -3,80 +3,65 @@
 use std::error::Error;
 use std::fmt;
 
-/// Why a call was refused. A refusal changes nothing but the work area; a list that stops at a refused node keeps the nodes
-/// before it.
-///
-/// ```
-/// use gantry::{Mesh, Refusal};
-///
-/// let refusal = Mesh::start(0, 4, 4).unwrap_err();
-/// assert_eq!(refusal, Refusal::Box);
-/// assert_eq!((refusal.number(), refusal.name()), (2, "box"));
-/// assert_eq!(refusal.to_string(), "refused 2 (box)");
-/// ```
-#[repr(u8)]
-#[derive(Clone, Copy, Debug, PartialEq, Eq, Hash)]
-pub enum Refusal {
-    /// Room for fewer than 8 points or 6 cells, or fewer answer bytes than cells.
-    Short = 1,
-    /// A side is 0 or above 131,072.
-    Box = 2,
-    /// The tables fail the mesh check; those of a [`Mesh`](crate::Mesh) never do.
-    NoMesh = 3,
-    /// A position outside the box; in the sphere test, a coordinate above 131,072.
-    Outside = 4,
-    /// A point is already there.
-    Taken = 5,
-    /// There is no room for a further point.
-    PointsFull = 6,
-    /// No cell holds the position. No mesh is known in which this occurs; that there is none is not proved.
-    Unheld = 7,
-    /// The old cells and the new ones together exceed the room for cells.
-    CellsFull = 8,
-    /// A node file under 20 bytes, or with a wrong count or distance in its trailer.
-    Trailer = 9,
-    /// The output is shorter than what is to be written.
-    NoPlace = 10,
-    /// The sphere test on a cell of volume 0 or less.
-    FlatCell = 11,
+/// One table of the refusals: case, number, name, and when a call answers it, in the manual's and the header's words.
+macro_rules! refusals {
+    ($($case:ident = $number:literal, $name:literal, $when:literal;)*) => {
+        /// Why a call was refused. A refusal changes nothing but the work area; a list that stops at a refused node keeps the
+        /// nodes before it. `docs/MANUAL.md` says of each one what to do.
+        ///
+        /// ```
+        /// use gantry::{Mesh, Refusal};
+        ///
+        /// let refusal = Mesh::start(0, 4, 4).unwrap_err();
+        /// assert_eq!(refusal, Refusal::Box);
+        /// assert_eq!((refusal.number(), refusal.name()), (2, "box"));
+        /// assert_eq!(refusal.to_string(), "refused 2 (box): a side is 0 or above 131,072");
+        /// ```
+        #[repr(u8)]
+        #[derive(Clone, Copy, Debug, PartialEq, Eq, Hash)]
+        pub enum Refusal {
+            $(#[doc = $when] $case = $number,)*
+        }
+
+        impl Refusal {
+            /// All of them, by number.
+            pub const ALL: [Refusal; [$($number),*].len()] = [$(Refusal::$case),*];
+
+            /// The table's name.
+            pub fn name(self) -> &'static str {
+                match self {
+                    $(Refusal::$case => $name,)*
+                }
+            }
+
+            /// When a call answers it.
+            pub fn when(self) -> &'static str {
+                match self {
+                    $(Refusal::$case => $when,)*
+                }
+            }
+        }
+    };
+}
+
+refusals! {
+    Short = 1, "short", "room for fewer than 8 points or 6 cells, or fewer answer bytes than cells";
+    Box = 2, "box", "a side is 0 or above 131,072";
+    NoMesh = 3, "no mesh", "record and tables fail the mesh check";
+    Outside = 4, "outside", "a position outside the box; in the sphere test, a coordinate above 131,072";
+    Taken = 5, "taken", "a point is already there";
+    PointsFull = 6, "points full", "there is no room for a further point";
+    Unheld = 7, "unheld", "no cell holds the position";
+    CellsFull = 8, "cells full", "the old cells and the new ones together exceed the room for cells";
+    Trailer = 9, "trailer", "a file under 20 bytes, or a wrong count or distance in its trailer";
+    NoPlace = 10, "no place", "the output is shorter than what is to be written";
+    FlatCell = 11, "flat cell", "a sphere test on a cell of volume 0 or less";
 }
 
 impl Refusal {
-    /// All of them, by number.
-    pub const ALL: [Refusal; 11] = [
-        Refusal::Short,
-        Refusal::Box,
-        Refusal::NoMesh,
-        Refusal::Outside,
-        Refusal::Taken,
-        Refusal::PointsFull,
-        Refusal::Unheld,
-        Refusal::CellsFull,
-        Refusal::Trailer,
-        Refusal::NoPlace,
-        Refusal::FlatCell,
-    ];
-
     /// The table's number, 1 to 11.
     pub fn number(self) -> u8 {
         self as u8
-    }
-
-    /// The table's name.
-    pub fn name(self) -> &'static str {
-        match self {
-            Refusal::Short => "short",
-            Refusal::Box => "box",
-            Refusal::NoMesh => "no mesh",
-            Refusal::Outside => "outside",
-            Refusal::Taken => "taken",
-            Refusal::PointsFull => "points full",
-            Refusal::Unheld => "unheld",
-            Refusal::CellsFull => "cells full",
-            Refusal::Trailer => "trailer",
-            Refusal::NoPlace => "no place",
-            Refusal::FlatCell => "flat cell",
-        }
     }
 
     /// The refusal of this number, if there is one.
@@ -87,7 +72,8 @@ impl Refusal {
 
 impl fmt::Display for Refusal {
     fn fmt(&self, f: &mut fmt::Formatter) -> fmt::Result {
-        write!(f, "refused {} ({})", self.number(), self.name())
+        let (number, name, when) = (self.number(), self.name(), self.when());
+        write!(f, "refused {number} ({name}): {when}")
     }
 }
 

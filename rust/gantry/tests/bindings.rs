@@ -93,9 +93,35 @@ fn refusals_leave_the_mesh() {
     let short = vec![1; cells - 1];
     assert_eq!(mesh.insert_answers(&short, [2, 2, 2]), Err(Refusal::Short));
     assert_eq!(mesh.insert_list(&[]), Ok(0));
-    assert_eq!(mesh.points(), before.points());
-    assert!(mesh.cells().eq(before.cells()));
+    assert_eq!(mesh, before);
     assert_eq!(format!("{mesh:?}"), format!("{before:?}"));
+}
+
+#[test]
+fn equal_where_every_call_answers_alike() {
+    let built = |room, nodes: &[Position]| {
+        let mut mesh = Mesh::start_with_room(4, 4, 4, room).unwrap();
+        mesh.insert_list(nodes).unwrap();
+        mesh
+    };
+    let [p, q] = [[1, 2, 3], [2, 2, 2]];
+    let mesh = built(Room::FULL, &[p, q]);
+    let mut one_by_one = Mesh::start(4, 4, 4).unwrap();
+    one_by_one.insert(p).unwrap();
+    one_by_one.insert(q).unwrap();
+    assert_eq!(mesh, one_by_one);
+    assert_ne!(mesh, built(Room::FULL, &[q, p]));
+    assert_ne!(
+        mesh,
+        built(
+            Room {
+                points: 20,
+                cells: 40
+            },
+            &[p, q]
+        )
+    );
+    assert_ne!(mesh, Mesh::start(4, 4, 5).unwrap());
 }
 
 #[test]

@@ -1,0 +1,181 @@
+//! The cells of a survey, or of a listing of them: listed, checked, drawn.
+
+use std::fmt::Write;
+
+use gantry::{Refusal, Stopped};
+
+use super::survey;
+use crate::check::{conditions, is_mesh, says};
+use crate::grid::Grid;
+use crate::input::Source;
+use crate::listing;
+use crate::survey::{Built, Survey};
+use crate::words::Words;
+use crate::{because, grouped, Done, Failure};
+
+pub fn list(words: &Words) -> Result<Done, Failure> {
+    let survey = match survey(words) {
+        Err(Failure::Input {
+            messages,
+            refusal: Some(refusal),
+        }) => return Ok(refused_list(refusal, messages)),
+        survey => survey?,
+    };
+    if let Some(length) = survey.length.filter(|&length| length > listing::FILE_LIMIT) {
+        let [length, limit] = [length, listing::FILE_LIMIT].map(grouped);
+        let why = format!("it has {length} bytes, and a listing takes at most {limit}");
+        let message = format!("{}: {}", survey.name, because(Refusal::Trailer, &why));
+        return Ok(refused_list(Refusal::Trailer, vec![message]));
+    }
+    let built = survey.build()?;
+    let text = listing::text(&Grid::from(&built.mesh), built.stopped);
+    Ok(Done {
+        complaints: survey.complaint(&built).into_iter().collect(),
+        notes: survey.notes,
+        ..Done::of(text)
+    })
+}
+
+fn refused_list(refusal: Refusal, complaints: Vec<String>) -> Done {
+    Done {
+        complaints,
+        ..Done::of(listing::refused(refusal))
+    }
+}
+
+/// A listing that was named.
+struct Listed {
+    name: String,
+    text: String,
+    is_mesh: bool,
+}
+
+/// What is shown: the cells that the builder makes, or those of a listing.
+struct Shown {
+    survey: Survey,
+    built: Built,
+    grid: Grid,
+    listed: Option<Listed>,
+    complaints: Vec<String>,
+}
+
+impl Shown {
+    fn read(words: &Words) -> Result<Shown, Failure> {
+        let both = [words.listing.as_ref(), words.plain.first()];
+        if both.iter().all(|word| word.is_some_and(|word| word == "-")) {
+            let message = "standard input can be only one of the two";
+            return Err(Failure::Usage(message.to_string()));
+        }
+        let listing = words.listing.as_ref();
+        let source = listing.map(|name| Source::read(name)).transpose()?;
+        let survey = survey(words)?;
+        let built = survey.build()?;
+        let shown = Shown {
+            grid: Grid::from(&built.mesh),
+            listed: None,
+            complaints: survey.complaint(&built).into_iter().collect(),
+            survey,
+            built,
+        };
+        match source {
+            Some(source) => shown.with_listing(source),
+            None => Ok(shown),
+        }
+    }
+
+    fn with_listing(mut self, source: Source) -> Result<Shown, Failure> {
+        if source.bytes.contains(&0) {
+            return Err(source.failure("not a listing"));
+        }
+        let grid = listing::read(&source.bytes, &self.survey);
+        self.grid = grid.map_err(|fault| source.failure(&fault))?;
+        let is_mesh = is_mesh(&self.grid);
+        if !is_mesh {
+            let complaint = format!("{}: its cells fail the mesh check", source.name);
+            self.complaints.push(complaint);
+        }
+        self.listed = Some(Listed {
+            text: String::from_utf8_lossy(&source.bytes).into_owned(),
+            name: source.name,
+            is_mesh,
+        });
+        Ok(self)
+    }
+
+    /// Where the list stopped, if it did.
+    fn stop(&self) -> Option<String> {
+        let Stopped { place, refusal } = self.built.stopped?;
+        let (number, name) = (refusal.number(), refusal.name());
+        Some(format!(
+            "stopped at place {place}: refused {number} ({name})"
+        ))
+    }
+
+    /// The first line of the listing, from 1, that is not the builder's.
+    fn first_difference(&self, listed: &Listed) -> Option<usize> {
+        let wanted = listing::text(&Grid::from(&self.built.mesh), self.built.stopped);
+        let [wanted, found] = [&wanted, &listed.text].map(|text| Vec::from_iter(text.lines()));
+        let lines = wanted.len().max(found.len());
+        let line = (0..lines).find(|&line| wanted.get(line) != found.get(line))?;
+        Some(line + 1)
+    }
+
+    fn done(self, text: String) -> Done {
+        Done {
+            output: text.into_bytes(),
+            notes: self.survey.notes,
+            complaints: self.complaints,
+        }
+    }
+}
+
+pub fn svg(words: &Words) -> Result<Done, Failure> {
+    let shown = Shown::read(words)?;
+    let text = shown.grid.to_svg(&Vec::from_iter(shown.stop()));
+    Ok(shown.done(text))
+}
+
+pub fn vtk(words: &Words) -> Result<Done, Failure> {
+    let shown = Shown::read(words)?;
+    let title = [shown.grid.summary()].into_iter().chain(shown.stop());
+    let text = shown.grid.to_vtk(&Vec::from_iter(title).join(", "));
+    Ok(shown.done(text))
+}
+
+pub fn check(words: &Words) -> Result<Done, Failure> {
+    let mut shown = Shown::read(words)?;
+    let name = shown
+        .listed
+        .as_ref()
+        .map_or(&shown.survey.name, |listed| &listed.name);
+    let mut text = format!("{name}: {}\n", shown.grid.summary());
+    let (inserted, nodes) = (shown.grid.points.len() - 8, shown.survey.nodes.len());
+    let all = match inserted == nodes {
+        true => Ok(format!("{nodes} nodes")),
+        false => Err(format!("{inserted} of {nodes} nodes")),
+    };
+    text += &says("every node went in", &all);
+    for (words, outcome) in conditions(&shown.grid) {
+        text += &says(words, &outcome);
+    }
+    if let Some(listed) = &shown.listed {
+        let same = match shown.first_difference(listed) {
+            None => Ok(format!("of {}", shown.survey.name)),
+            Some(line) => Err(format!("line {line} differs")),
+        };
+        text += &says(
+            "the listing is the one that the builder makes of the nodes",
+            &same,
+        );
+        if let Err(fault) = same {
+            let complaint = format!("{}: {fault} from the builder's listing", listed.name);
+            shown.complaints.push(complaint);
+        }
+    }
+    let is_mesh = match &shown.listed {
+        Some(listed) => listed.is_mesh,
+        None => shown.built.mesh.check(),
+    };
+    let _ = writeln!(text, "mesh check: {}", if is_mesh { "yes" } else { "no" });
+    Ok(shown.done(text))
+}

@@ -1,0 +1,107 @@
+//! Answers about positions and points.
+
+use std::fmt::Write;
+
+use gantry::{sphere_test, volume6, Position, Refusal, SphereAnswer, SIDE_LIMIT};
+
+use super::read_survey;
+use crate::grid::Grid;
+use crate::words::{numbers, Words};
+use crate::{because, grouped, spaced, Done, Failure};
+
+pub fn locate(words: &Words) -> Result<Done, Failure> {
+    let Some((file, coordinates)) = words.plain.split_first() else {
+        return Err(Failure::Usage("no FILE".to_string()));
+    };
+    if coordinates.is_empty() || coordinates.len() % 3 != 0 {
+        let count = coordinates.len();
+        let message = format!("{count} numbers after FILE, and a position has three, x y z");
+        return Err(Failure::Usage(message));
+    }
+    let positions = coordinates.chunks_exact(3).map(numbers);
+    let positions: Vec<[i64; 3]> = positions.collect::<Result<_, _>>()?;
+    let survey = read_survey(file, words)?;
+    let mut built = survey.build()?;
+    let grid = Grid::from(&built.mesh);
+    let mut text = String::new();
+    let mut complaints: Vec<String> = survey.complaint(&built).into_iter().collect();
+    for numbers in positions {
+        match to_position(numbers).and_then(|p| Ok((p, built.mesh.locate(p)?))) {
+            Ok((p, cell)) => text += &shares(&grid, p, cell),
+            Err(refusal) => {
+                let [x, y, z] = numbers;
+                let why = because(refusal, &format!("the box is {}", spaced(grid.sides)));
+                complaints.push(format!("position {x} {y} {z}: {why}"));
+            }
+        }
+    }
+    Ok(Done {
+        output: text.into_bytes(),
+        notes: survey.notes,
+        complaints,
+    })
+}
+
+/// A number that is no coordinate lies outside every box.
+fn to_position(numbers: [i64; 3]) -> Result<Position, Refusal> {
+    let mut position = [0; 3];
+    for (to, number) in position.iter_mut().zip(numbers) {
+        *to = u32::try_from(number).map_err(|_| Refusal::Outside)?;
+    }
+    Ok(position)
+}
+
+/// The cell that holds p, and what a controller weighs its corners with.
+fn shares(grid: &Grid, p: Position, number: usize) -> String {
+    let cell = &grid.cells[number];
+    let volume = grid.volume6(cell, None);
+    let head = format!("position {}: cell {number}", spaced(p));
+    let mut text = format!("{head}, six-fold volume {volume}\n");
+    for (place, &point) in cell.corners.iter().enumerate() {
+        let own = grid.volume6(cell, Some((place, p)));
+        let share = own as f64 / volume as f64;
+        let at = spaced(grid.points[point]);
+        let corner = format!("corner {place}: point {point} at {at}");
+        let _ = writeln!(text, "  {corner}, volume {own}, share {share:.4}");
+    }
+    text
+}
+
+fn no_coordinate() -> String {
+    let limit = grouped(SIDE_LIMIT as usize);
+    format!("a coordinate is outside 0 to {limit}")
+}
+
+pub fn volume(words: &Words) -> Result<Done, Failure> {
+    let numbers: [i64; 12] = numbers(&words.plain)?;
+    // What no i32 holds is no coordinate either.
+    let numbers = numbers.map(|number| i32::try_from(number).unwrap_or(-1));
+    let (corners, _) = numbers.as_chunks();
+    let volume = volume6([corners[0], corners[1], corners[2], corners[3]]);
+    let volume = volume.ok_or_else(|| Failure::input(no_coordinate()))?;
+    Ok(Done::of(format!("{volume}\n")))
+}
+
+pub fn sphere(words: &Words) -> Result<Done, Failure> {
+    let numbers: [i64; 15] = numbers(&words.plain)?;
+    let refused = |refusal| {
+        let why = match refusal {
+            Refusal::FlatCell => "the volume of a, b, c, d is 0 or less".to_string(),
+            _ => no_coordinate(),
+        };
+        Failure::input(because(refusal, &why))
+    };
+    let mut positions = [[0; 3]; 5];
+    for (to, &numbers) in positions.iter_mut().zip(numbers.as_chunks().0) {
+        *to = to_position(numbers).map_err(refused)?;
+    }
+    let [a, b, c, d, p] = positions;
+    let answer = sphere_test([a, b, c, d], p).map_err(refused)?;
+    let name = match answer {
+        SphereAnswer::Inside(_) => "inside",
+        SphereAnswer::Outside(_) => "outside",
+        SphereAnswer::Close(_) => "close",
+    };
+    let yes = if answer.is_yes() { "yes" } else { "no" };
+    Ok(Done::of(format!("{name}, T = {}, {yes}\n", answer.t())))
+}

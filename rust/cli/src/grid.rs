@@ -1,0 +1,52 @@
+//! The points and cells that are shown.
+
+use gantry::{volume6, Cell, Mesh, Position};
+
+#[derive(Debug, PartialEq, Eq)]
+pub struct Grid {
+    pub sides: Position,
+    /// The box corners, then the nodes.
+    pub points: Vec<Position>,
+    pub cells: Vec<Cell>,
+}
+
+impl From<&Mesh> for Grid {
+    fn from(mesh: &Mesh) -> Grid {
+        Grid {
+            sides: mesh.sides(),
+            points: mesh.points().to_vec(),
+            cells: mesh.cells().collect(),
+        }
+    }
+}
+
+impl Grid {
+    pub fn corners(&self, cell: &Cell) -> [Position; 4] {
+        cell.corners.map(|point| self.points[point])
+    }
+
+    /// Of a cell, with its corner `place` moved to `p` where these are given.
+    pub fn volume6(&self, cell: &Cell, moved: Option<(usize, Position)>) -> i64 {
+        let mut corners = self.corners(cell);
+        if let Some((place, p)) = moved {
+            corners[place] = p;
+        }
+        let corners = corners.map(|p| p.map(|number| number as i32));
+        volume6(corners).expect("points in the box")
+    }
+
+    /// Six times the box's volume.
+    pub fn box_volume6(&self) -> i64 {
+        6 * self.sides.map(i64::from).iter().product::<i64>()
+    }
+
+    /// `box X Y Z, P points, C cells`
+    pub fn summary(&self) -> String {
+        let [x, y, z] = self.sides;
+        format!(
+            "box {x} {y} {z}, {} points, {} cells",
+            self.points.len(),
+            self.cells.len()
+        )
+    }
+}

@@ -1,0 +1,124 @@
+//! The nodes of a file, and their mesh.
+
+use std::ffi::OsStr;
+
+use gantry::{Mesh, NodeFile, Position, Refusal, Stopped, CELL_LIMIT};
+
+use crate::input::{Kind, Source};
+use crate::text::{self, Reading};
+use crate::{because, grouped, spaced, Failure};
+
+/// A box and its nodes, from a node file or from text.
+#[derive(Debug)]
+pub struct Survey {
+    /// The file's, as messages call it.
+    pub name: String,
+    pub sides: Position,
+    pub nodes: Vec<Position>,
+    /// Of text, the line of each node.
+    lines: Vec<usize>,
+    pub notes: Vec<String>,
+    /// How many bytes a node file has.
+    pub length: Option<usize>,
+}
+
+/// A survey's mesh: all its nodes, or those before the first that was refused.
+pub struct Built {
+    pub mesh: Mesh,
+    pub stopped: Option<Stopped>,
+}
+
+impl Survey {
+    pub fn read(word: &OsStr, reading: Reading) -> Result<Survey, Failure> {
+        let source = Source::read(word)?;
+        match source.kind()? {
+            Kind::Nodes(file) => Survey::of_node_file(&source, file, reading),
+            Kind::RefusedNodes(refusal) => Err(source.refused(refusal)),
+            Kind::Listing => Err(source.failure(
+                "a listing, which has no coordinates; name its node file (and by --listing the listing)",
+            )),
+            Kind::Text => Survey::of_text(&source, reading),
+        }
+    }
+
+    fn of_node_file(source: &Source, file: NodeFile, reading: Reading) -> Result<Survey, Failure> {
+        if reading.leave_out {
+            return Err(source.failure("a node file, and --leave-out is for text; see gantry text"));
+        }
+        if reading.sides.is_some_and(|sides| sides != file.sides) {
+            let sides = spaced(file.sides);
+            return Err(source.failure(&format!("a node file of the box {sides}, not of --box")));
+        }
+        Ok(Survey {
+            name: source.name.clone(),
+            sides: file.sides,
+            nodes: file.nodes,
+            lines: Vec::new(),
+            notes: Vec::new(),
+            length: Some(source.bytes.len()),
+        })
+    }
+
+    fn of_text(source: &Source, reading: Reading) -> Result<Survey, Failure> {
+        let named = |messages: Vec<String>| -> Vec<String> {
+            messages
+                .iter()
+                .map(|message| format!("{}: {message}", source.name))
+                .collect()
+        };
+        let read = text::read(&source.bytes, reading).map_err(|faults| Failure::Input {
+            messages: named(faults),
+            refusal: None,
+        })?;
+        Ok(Survey {
+            name: source.name.clone(),
+            sides: read.sides,
+            nodes: read.nodes,
+            lines: read.lines,
+            notes: named(read.left_out),
+            length: None,
+        })
+    }
+
+    /// By the proved builder.
+    pub fn build(&self) -> Result<Built, Failure> {
+        let [x, y, z] = self.sides;
+        let mut mesh = Mesh::start(x, y, z)
+            .map_err(|refusal| Failure::input(format!("{}: {refusal}", self.name)))?;
+        let stopped = mesh.insert_list(&self.nodes).err();
+        Ok(Built { mesh, stopped })
+    }
+
+    /// Which node did not go in, and why.
+    pub fn complaint(&self, Built { mesh, stopped }: &Built) -> Option<String> {
+        let Stopped { place, refusal } = (*stopped)?;
+        let node = self.nodes[place];
+        let line = self.lines.get(place).map(|line| format!("line {line}: "));
+        let cells = mesh.cells().len();
+        let why = match refusal {
+            Refusal::Outside => format!("the box is {}", spaced(self.sides)),
+            Refusal::Taken => taken_by(mesh, node),
+            Refusal::CellsFull => {
+                let limit = grouped(CELL_LIMIT);
+                format!("{cells} cells and the new ones exceed {limit}; {place} nodes went in")
+            }
+            _ => refusal.when().to_string(),
+        };
+        Some(format!(
+            "{}: {}place {place}: node {} did not go in: {}",
+            self.name,
+            line.unwrap_or_default(),
+            spaced(node),
+            because(refusal, &why)
+        ))
+    }
+}
+
+fn taken_by(mesh: &Mesh, node: Position) -> String {
+    let point = mesh.points().iter().position(|&point| point == node);
+    match point {
+        Some(point @ 0..8) => format!("it is box corner {point}, which is not to be listed"),
+        Some(point) => format!("it is at place {} already, point {point}", point - 8),
+        None => Refusal::Taken.when().to_string(),
+    }
+}

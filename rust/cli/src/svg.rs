@@ -1,0 +1,310 @@
+//! A grid as a picture: the edges of its cells in an axonometric view, the near ones over the far ones, with the numbers of
+//! points and cells where there are few.
+
+use std::collections::BTreeSet;
+use std::fmt::Write;
+
+use gantry::Position;
+
+use crate::grid::Grid;
+use crate::labels::{Page, Point2, Rectangle};
+
+/// Pixels of the picture's longer side, without the margin, for few points.
+const SIZE: f64 = 440.0;
+const MARGIN: f64 = 30.0;
+/// A line of the caption.
+const LINE: f64 = 16.0;
+const FONT: f64 = 12.0;
+/// The longest side is drawn at most so many times as long as another.
+const SLENDER: f64 = 4.0;
+/// Points and cells are numbered where there are at most so many.
+pub const NUMBERED_POINTS: usize = 64;
+pub const NUMBERED_CELLS: usize = 24;
+
+const BOX_COLOUR: &str = "#102a57";
+const NODE_COLOUR: &str = "#b4410f";
+const CELL_COLOUR: &str = "#1e6e46";
+const QUIET_COLOUR: &str = "#5b6675";
+
+type Vector = [f64; 3];
+
+/// Towards the eye; then the picture's right and up, all at right angles and of length 1.
+const EYE: Vector = [0.464_18, -0.779_06, 0.421_49];
+const RIGHT: Vector = [0.859_07, 0.511_85, 0.0];
+const UP: Vector = [-0.215_74, 0.362_09, 0.906_84];
+
+fn dot(a: Vector, b: Vector) -> f64 {
+    a[0] * b[0] + a[1] * b[1] + a[2] * b[2]
+}
+
+/// A place on the page, and how near it is.
+#[derive(Clone, Copy)]
+struct Seen {
+    at: Point2,
+    near: f64,
+}
+
+/// By how much each axis is stretched, so that the cells of a long box can be told apart.
+fn stretch(sides: Position) -> Vector {
+    let longest = f64::from(sides.into_iter().max().unwrap_or(1));
+    sides.map(|side| (longest / (SLENDER * f64::from(side))).max(1.0))
+}
+
+fn seen(p: Position, stretch: Vector) -> Seen {
+    let p = [0, 1, 2].map(|axis| f64::from(p[axis]) * stretch[axis]);
+    let at = Point2 {
+        x: dot(p, RIGHT),
+        y: -dot(p, UP),
+    };
+    Seen {
+        at,
+        near: dot(p, EYE),
+    }
+}
+
+fn middle(points: &[Seen]) -> Seen {
+    let mean = |of: fn(&Seen) -> f64| points.iter().map(of).sum::<f64>() / points.len() as f64;
+    let at = Point2 {
+        x: mean(|p| p.at.x),
+        y: mean(|p| p.at.y),
+    };
+    Seen {
+        at,
+        near: mean(|p| p.near),
+    }
+}
+
+/// The least and greatest of some numbers.
+fn range(numbers: impl Iterator<Item = f64> + Clone) -> (f64, f64) {
+    let least = numbers.clone().fold(f64::INFINITY, f64::min);
+    (least, numbers.fold(f64::NEG_INFINITY, f64::max))
+}
+
+struct View {
+    points: Vec<Seen>,
+    width: f64,
+    height: f64,
+}
+
+/// The points moved and scaled to the page, nearness to 0 for the farthest and 1 for the nearest.
+fn view(points: &[Position], stretch: Vector) -> View {
+    let seen: Vec<Seen> = points.iter().map(|&p| seen(p, stretch)).collect();
+    let (left, right) = range(seen.iter().map(|p| p.at.x));
+    let (top, bottom) = range(seen.iter().map(|p| p.at.y));
+    let (far, near) = range(seen.iter().map(|p| p.near));
+    let size = SIZE * (points.len() as f64 / 16.0).sqrt().clamp(1.0, 2.5);
+    let scale = size / (right - left).max(bottom - top);
+    let placed = |p: &Seen| Seen {
+        at: Point2 {
+            x: MARGIN + (p.at.x - left) * scale,
+            y: MARGIN + (p.at.y - top) * scale,
+        },
+        near: (p.near - far) / (near - far),
+    };
+    View {
+        points: seen.iter().map(placed).collect(),
+        width: 2.0 * MARGIN + (right - left) * scale,
+        height: 2.0 * MARGIN + (bottom - top) * scale,
+    }
+}
+
+/// Between a far and a near colour.
+fn colour(near: f64) -> String {
+    let mix = |far: f64, close: f64| (far + (close - far) * near).round() as u8;
+    let [red, green, blue] = [mix(198.0, 16.0), mix(210.0, 42.0), mix(222.0, 87.0)];
+    format!("#{red:02x}{green:02x}{blue:02x}")
+}
+
+/// Does a line between the two run along an edge of the box?
+fn is_on_box_edge(sides: Position, [p, q]: [Position; 2]) -> bool {
+    let on_wall = |&axis: &usize| p[axis] == q[axis] && [0, sides[axis]].contains(&p[axis]);
+    (0..3).filter(on_wall).count() >= 2
+}
+
+fn radius(point: Seen) -> f64 {
+    2.0 + 1.5 * point.near
+}
+
+struct Picture<'a> {
+    grid: &'a Grid,
+    view: View,
+    edges: Vec<[usize; 2]>,
+    text: String,
+}
+
+impl Picture<'_> {
+    fn line(&mut self, [a, b]: [Point2; 2], stroke: &str, width: f64) {
+        let _ = writeln!(
+            self.text,
+            "<line x1=\"{:.1}\" y1=\"{:.1}\" x2=\"{:.1}\" y2=\"{:.1}\" stroke=\"{stroke}\" stroke-width=\"{width:.2}\"/>",
+            a.x, a.y, b.x, b.y
+        );
+    }
+
+    fn draw_edge(&mut self, edge: [usize; 2]) {
+        let is_of_box = is_on_box_edge(self.grid.sides, edge.map(|point| self.grid.points[point]));
+        let ends = edge.map(|point| self.view.points[point]);
+        let near = middle(&ends).near;
+        let width = if is_of_box { 2.2 } else { 0.7 + 0.8 * near };
+        let ends = ends.map(|end| end.at);
+        // A white border, so that what is nearer is seen to pass over.
+        self.line(ends, "#ffffff", width + 3.0);
+        self.line(ends, &colour(near), width);
+    }
+
+    fn draw_point(&mut self, point: usize) {
+        let seen = self.view.points[point];
+        let fill = if point < 8 { BOX_COLOUR } else { NODE_COLOUR };
+        let _ = writeln!(
+            self.text,
+            "<circle cx=\"{:.1}\" cy=\"{:.1}\" r=\"{:.1}\" fill=\"{fill}\"/>",
+            seen.at.x,
+            seen.at.y,
+            radius(seen)
+        );
+    }
+
+    /// With a white border.
+    fn label(&mut self, centre: Point2, fill: &str, words: &str) {
+        let _ = writeln!(
+            self.text,
+            "<text x=\"{:.1}\" y=\"{:.1}\" fill=\"{fill}\" stroke=\"#ffffff\" stroke-width=\"3\" paint-order=\"stroke\">{words}</text>",
+            centre.x,
+            centre.y + 0.36 * FONT
+        );
+    }
+
+    fn page(&self) -> Page {
+        let View {
+            points,
+            width,
+            height,
+        } = &self.view;
+        let edge = Rectangle {
+            left: 2.0,
+            right: width - 2.0,
+            top: 2.0,
+            bottom: height - 2.0,
+        };
+        let dot =
+            |&point: &Seen| Rectangle::round(point.at, radius(point) + 1.0, radius(point) + 1.0);
+        let line = |edge: &[usize; 2]| edge.map(|point| points[point].at);
+        Page::new(
+            edge,
+            points.iter().map(dot).collect(),
+            self.edges.iter().map(line).collect(),
+        )
+    }
+
+    fn draw_labels(&mut self) {
+        let mut page = self.page();
+        if self.grid.points.len() <= NUMBERED_POINTS {
+            for point in 0..self.grid.points.len() {
+                let seen = self.view.points[point];
+                let fill = if point < 8 { BOX_COLOUR } else { NODE_COLOUR };
+                let words = point.to_string();
+                if let Some(centre) = page.place(&words, FONT, seen.at, radius(seen) + 0.7 * FONT) {
+                    self.label(centre, fill, &words);
+                }
+            }
+        }
+        if self.grid.cells.len() <= NUMBERED_CELLS {
+            for (number, cell) in self.grid.cells.iter().enumerate() {
+                let anchor = middle(&cell.corners.map(|point| self.view.points[point])).at;
+                let words = number.to_string();
+                if let Some(centre) = page.place(&words, FONT, anchor, 0.0) {
+                    self.label(centre, CELL_COLOUR, &words);
+                }
+            }
+        }
+        // The axes run from point 0 to points 1, 2 and 4.
+        for (axis, end) in [("x", 1), ("y", 2), ("z", 4)] {
+            let [from, to] = [0, end].map(|point| self.view.points[point].at);
+            // Off the middle, where a node of a lattice may be.
+            let anchor = Point2 {
+                x: 0.7 * from.x + 0.3 * to.x,
+                y: 0.7 * from.y + 0.3 * to.y,
+            };
+            if let Some(centre) = page.place(axis, FONT, anchor, 0.9 * FONT) {
+                self.label(centre, QUIET_COLOUR, axis);
+            }
+        }
+    }
+
+    fn colours(&self) -> String {
+        let mut words = "blue: box corners, brown: nodes".to_string();
+        if self.grid.cells.len() <= NUMBERED_CELLS {
+            words += ", green: cells";
+        }
+        if stretch(self.grid.sides) != [1.0; 3] {
+            words += "; short sides are drawn longer";
+        }
+        words
+    }
+
+    fn draw_caption(&mut self, lines: &[String]) {
+        for (row, words) in lines.iter().enumerate() {
+            let y = self.view.height + LINE * row as f64;
+            let words = escaped(words);
+            let _ = writeln!(
+                self.text,
+                "<text x=\"{MARGIN}\" y=\"{y:.1}\" fill=\"{QUIET_COLOUR}\" text-anchor=\"start\">{words}</text>"
+            );
+        }
+    }
+}
+
+fn escaped(words: &str) -> String {
+    let words: String = words.chars().filter(|c| !c.is_control()).collect();
+    words
+        .replace('&', "&amp;")
+        .replace('<', "&lt;")
+        .replace('>', "&gt;")
+}
+
+impl Grid {
+    fn edges(&self) -> BTreeSet<[usize; 2]> {
+        let pairs = [(0, 1), (0, 2), (0, 3), (1, 2), (1, 3), (2, 3)];
+        let edges = self.cells.iter().flat_map(|cell| {
+            let c = cell.corners;
+            pairs.map(|(i, j)| [c[i].min(c[j]), c[i].max(c[j])])
+        });
+        edges.collect()
+    }
+
+    /// With a caption: the counts, the lines `more`, the colours.
+    pub fn to_svg(&self, more: &[String]) -> String {
+        let view = view(&self.points, stretch(self.sides));
+        let near = |edge: &[usize; 2]| middle(&edge.map(|point| view.points[point])).near;
+        let mut edges: Vec<[usize; 2]> = self.edges().into_iter().collect();
+        edges.sort_by(|a, b| near(a).total_cmp(&near(b)));
+        let mut picture = Picture {
+            grid: self,
+            view,
+            edges,
+            text: String::new(),
+        };
+        for edge in picture.edges.clone() {
+            picture.draw_edge(edge);
+        }
+        for point in 0..self.points.len() {
+            picture.draw_point(point);
+        }
+        picture.draw_labels();
+        let mut caption = vec![self.summary()];
+        caption.extend_from_slice(more);
+        caption.push(picture.colours());
+        picture.draw_caption(&caption);
+        let (width, height) = (
+            picture.view.width,
+            picture.view.height + LINE * caption.len() as f64,
+        );
+        format!(
+            "<svg xmlns=\"http://www.w3.org/2000/svg\" width=\"{width:.0}\" height=\"{height:.0}\" viewBox=\"0 0 {width:.1} {height:.1}\">\n\
+             <rect width=\"100%\" height=\"100%\" fill=\"#ffffff\"/>\n\
+             <g stroke-linecap=\"round\" font-family=\"sans-serif\" font-size=\"{FONT}\" text-anchor=\"middle\">\n\
+             {}</g>\n</svg>\n",
+            picture.text
+        )
+    }
+}

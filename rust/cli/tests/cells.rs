@@ -1,0 +1,166 @@
+//! Listings written and read back, and what is said of their cells.
+
+use gantry::{Cell, Mesh, Position};
+use gantry_cli::check::{conditions, is_mesh};
+use gantry_cli::grid::Grid;
+use gantry_cli::listing;
+use gantry_cli::survey::Survey;
+use gantry_cli::text::Reading;
+use plain::nodefile::encode;
+use plain::random::Random;
+
+/// Through a file, as the command reads it.
+fn survey(name: &str, bytes: &[u8]) -> Survey {
+    let path = std::env::temp_dir().join(format!("gantry-cells-{name}-{}", std::process::id()));
+    std::fs::write(&path, bytes).expect("a temporary file");
+    let mut survey = Survey::read(path.as_os_str(), Reading::default()).expect("a survey");
+    std::fs::remove_file(&path).expect("the temporary file");
+    survey.name = name.to_string();
+    survey
+}
+
+fn listed(survey: &Survey) -> (Grid, String) {
+    let built = survey.build().unwrap();
+    let grid = Grid::from(&built.mesh);
+    let text = listing::text(&grid, built.stopped);
+    (grid, text)
+}
+
+#[test]
+fn a_listing_is_the_plain_build_s_and_reads_back() {
+    let lists: [&[Position]; 4] = [
+        &[],
+        &[[1, 2, 3], [2, 2, 2], [0, 1, 4]],
+        // The third node is taken, then outside.
+        &[[1, 2, 3], [2, 2, 2], [2, 2, 2], [0, 1, 4]],
+        &[[1, 2, 3], [2, 2, 2], [5, 0, 0]],
+    ];
+    for nodes in lists {
+        let file = encode([4; 3], nodes);
+        let survey = survey("both", &file);
+        let (grid, text) = listed(&survey);
+        assert_eq!(text, plain::listing(&file));
+        assert_eq!(listing::read(text.as_bytes(), &survey), Ok(grid));
+    }
+}
+
+#[test]
+fn listings_that_do_not_fit() {
+    let one = survey("one", &encode([4; 3], &[[1, 2, 3]]));
+    let (_, text) = listed(&one);
+    let error = |text: &str, survey: &Survey| listing::read(text.as_bytes(), survey).unwrap_err();
+    let head = "line 1: 'refused 9' is not 'box X Y Z points P cells C'";
+    assert_eq!(error("refused 9\n", &one), head);
+    let other = survey("other", &encode([5, 4, 4], &[[1, 2, 3]]));
+    assert_eq!(error(&text, &other), "line 1: the box of other is 5 4 4");
+    let more = survey("more", &encode([4; 3], &[[1, 2, 3], [2, 2, 2]]));
+    assert_eq!(
+        error(&text, &more),
+        "line 1: 9 points, and more has 2 nodes"
+    );
+    let cut: Vec<&str> = text.lines().take(12).collect();
+    assert_eq!(error(&cut.join("\n"), &one), "line 13: '' is not cell 11");
+    let wrong = text.replacen("\n3 ", "\n4 ", 1);
+    assert!(error(&wrong, &one).starts_with("line 5: '4 "));
+    let many = "box 4 4 4 points 9 cells 4097\n";
+    assert_eq!(
+        error(many, &one),
+        "line 1: at most 1,024 points and 4,096 cells"
+    );
+    for end in [
+        "more",
+        "stopped 0",
+        "stopped 1 5",
+        "stopped 0 5\nstopped 0 5",
+    ] {
+        let longer = format!("{text}{end}\n");
+        assert_eq!(
+            error(&longer, &one),
+            "line 14: not 'stopped', a place and a number"
+        );
+    }
+    let outside = survey("outside", &encode([4; 3], &[[5, 0, 0]]));
+    assert_eq!(
+        error(&text, &outside),
+        "line 1: a node of outside lies outside the box"
+    );
+}
+
+/// What is said of a grid, a line a condition that fails.
+fn failing(grid: &Grid) -> Vec<String> {
+    let faults = conditions(grid)
+        .into_iter()
+        .filter_map(|(_, outcome)| outcome.err());
+    faults.collect()
+}
+
+fn started(nodes: &[Position]) -> Grid {
+    let mut mesh = Mesh::start(4, 4, 4).unwrap();
+    mesh.insert_list(nodes).unwrap();
+    Grid::from(&mesh)
+}
+
+#[test]
+fn each_condition_is_told() {
+    let mut grid = started(&[[1, 2, 3]]);
+    assert!(failing(&grid).is_empty() && is_mesh(&grid));
+    grid.cells[0].corners.swap(0, 1);
+    grid.cells[0].neighbours.swap(0, 1);
+    assert_eq!(failing(&grid)[0], "cell 0 has the six-fold volume -48");
+    assert!(!is_mesh(&grid));
+
+    let mut grid = started(&[]);
+    grid.points.push([1, 1, 1]);
+    assert_eq!(failing(&grid), ["point 8 is not"]);
+    assert!(!is_mesh(&grid));
+
+    let mut grid = started(&[]);
+    grid.cells[2].neighbours[1] = None;
+    let wall = "cell 2 face 1: no neighbour, and its corners are not on one wall";
+    assert_eq!(failing(&grid), [wall]);
+    grid.cells[2].neighbours[1] = Some(0);
+    let other = "cell 2 face 1: cell 0 has no face with the same points";
+    assert_eq!(failing(&grid), [other]);
+
+    let mut grid = started(&[]);
+    grid.cells.pop();
+    for cell in &mut grid.cells {
+        cell.neighbours = cell.neighbours.map(|across| across.filter(|&n| n < 5));
+    }
+    let sum = "six-fold 320, and 6 × 4 × 4 × 4 = 384";
+    assert_eq!(failing(&grid).last().map(String::as_str), Some(sum));
+}
+
+/// One entry wrong, or two swapped.
+fn damage(grid: &mut Grid, random: &mut Random) {
+    let (points, cells) = (grid.points.len(), grid.cells.len());
+    let cell: &mut Cell = &mut grid.cells[random.index(cells)];
+    let (i, j) = (random.index(4), random.index(4));
+    match random.below(5) {
+        0 => cell.corners[i] = random.index(points),
+        1 => cell.neighbours[i] = Some(random.index(cells)),
+        2 => cell.neighbours[i] = None,
+        3 => cell.corners.swap(i, j),
+        _ => cell.neighbours.swap(i, j),
+    }
+}
+
+#[test]
+fn what_is_told_agrees_with_the_mesh_check() {
+    let mut random = Random::new(15);
+    let mut meshes = 0;
+    for _ in 0..3_000 {
+        let mut mesh = Mesh::start(4, 4, 4).unwrap();
+        for _ in 0..random.below(6) {
+            let _ = mesh.insert([0; 3].map(|_| random.below(5) as u32));
+        }
+        let mut grid = Grid::from(&mesh);
+        for _ in 0..random.below(3) {
+            damage(&mut grid, &mut random);
+        }
+        let verdict = is_mesh(&grid);
+        assert_eq!(failing(&grid).is_empty(), verdict, "{grid:?}");
+        meshes += usize::from(verdict);
+    }
+    assert!((500..2_500).contains(&meshes), "{meshes} of 3000");
+}

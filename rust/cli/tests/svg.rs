@@ -1,0 +1,127 @@
+use gantry::{Mesh, Position};
+use gantry_cli::grid::Grid;
+use gantry_cli::labels::{Page, Point2, Rectangle};
+use plain::random::Random;
+
+fn picture(sides: Position, nodes: &[Position]) -> String {
+    let [x, y, z] = sides;
+    let mut mesh = Mesh::start(x, y, z).unwrap();
+    mesh.insert_list(nodes).unwrap();
+    Grid::from(&mesh).to_svg(&[])
+}
+
+fn counts(text: &str) -> [usize; 3] {
+    ["<line ", "<circle ", "<text "].map(|tag| text.matches(tag).count())
+}
+
+/// Three axes and two lines of caption.
+const WORDS: usize = 5;
+
+#[test]
+fn every_edge_point_and_number_is_drawn() {
+    // Twelve edges of the box, six diagonals and one through the middle, each with its border.
+    let expected = [2 * 19, 8, 8 + 6 + WORDS];
+    assert_eq!(counts(&picture([4; 3], &[])), expected);
+    // The node takes the middle one's place, and is joined to all corners.
+    let expected = [2 * 26, 9, 9 + 12 + WORDS];
+    assert_eq!(counts(&picture([4; 3], &[[1, 2, 3]])), expected);
+}
+
+#[test]
+fn many_cells_have_no_numbers() {
+    let nodes = [[1, 1, 1], [3, 1, 2], [2, 3, 1], [1, 3, 3]];
+    assert_eq!(counts(&picture([4; 3], &nodes))[1..], [12, 12 + WORDS]);
+    let nodes: Vec<Position> = (1..60).map(|k| [k, 1, 1]).collect();
+    assert_eq!(counts(&picture([60, 4, 4], &nodes))[1..], [67, WORDS]);
+}
+
+#[test]
+fn the_picture_has_its_place_on_the_page() {
+    let text = picture([131_072, 1, 500], &[]);
+    assert!(text.starts_with("<svg xmlns=\"http://www.w3.org/2000/svg\" width=\"500\""));
+    assert!(text.ends_with("</g>\n</svg>\n"));
+    assert!(!text.contains("NaN") && !text.contains("inf"));
+}
+
+#[test]
+fn a_caption_is_text() {
+    let mesh = Mesh::start(4, 4, 4).unwrap();
+    let text = Grid::from(&mesh).to_svg(&["a < b & c > d\n".to_string()]);
+    assert!(text.contains(">a &lt; b &amp; c &gt; d</text>"));
+}
+
+/// The labels of a picture, as what a browser draws takes: half a digit's width and height round each centre.
+fn labels(text: &str) -> Vec<Rectangle> {
+    let number = |line: &str, name: &str| -> Option<f64> {
+        line.split_once(&format!("{name}=\""))?
+            .1
+            .split_once('"')?
+            .0
+            .parse()
+            .ok()
+    };
+    let lines = text
+        .lines()
+        .filter(|line| line.starts_with("<text ") && line.contains("paint-order"));
+    let label = |line: &str| {
+        let words = line.split_once('>')?.1.split_once('<')?.0;
+        let centre = Point2 {
+            x: number(line, "x")?,
+            y: number(line, "y")? - 4.3,
+        };
+        Some(Rectangle::round(centre, 3.6 * words.len() as f64, 4.5))
+    };
+    lines.map(|line| label(line).expect("a label")).collect()
+}
+
+#[test]
+fn labels_of_small_meshes_do_not_overlap() {
+    let mut random = Random::new(7);
+    for _ in 0..60 {
+        let sides = [20, 400, 100_000].map(|limit| 20 + random.below(limit) as u32);
+        let mut mesh = Mesh::start(sides[0], sides[1], sides[2]).unwrap();
+        for _ in 0..random.below(12) {
+            let _ = mesh.insert(sides.map(|side| random.below(u64::from(side) + 1) as u32));
+        }
+        let grid = Grid::from(&mesh);
+        let labels = labels(&grid.to_svg(&[]));
+        let cells = if grid.cells.len() <= 24 {
+            grid.cells.len()
+        } else {
+            0
+        };
+        assert_eq!(
+            labels.len(),
+            grid.points.len() + cells + 3,
+            "{:?}",
+            grid.summary()
+        );
+        for (k, label) in labels.iter().enumerate() {
+            assert!(
+                !labels[..k].iter().any(|other| other.overlaps(label)),
+                "{}",
+                grid.summary()
+            );
+        }
+    }
+}
+
+#[test]
+fn a_label_goes_where_nothing_is() {
+    let edge = Rectangle::round(Point2 { x: 50.0, y: 50.0 }, 50.0, 50.0);
+    let dot = Rectangle::round(Point2 { x: 50.0, y: 50.0 }, 3.0, 3.0);
+    let anchor = Point2 { x: 50.0, y: 50.0 };
+    let mut page = Page::new(edge, vec![dot], Vec::new());
+    let first = page.place("7", 12.0, anchor, 12.0).unwrap();
+    let second = page.place("8", 12.0, anchor, 12.0).unwrap();
+    assert_eq!(first, Point2 { x: 62.0, y: 50.0 });
+    assert_ne!(first, second);
+    // A line through the first place makes another one better.
+    let line = [Point2 { x: 50.0, y: 50.0 }, Point2 { x: 100.0, y: 50.0 }];
+    let mut page = Page::new(edge, vec![dot], vec![line]);
+    let crossed = page.place("7", 12.0, anchor, 12.0).unwrap();
+    assert!((crossed.y - 50.0).abs() > 4.0);
+    // There is no place where all is taken.
+    let mut page = Page::new(edge, vec![edge], Vec::new());
+    assert_eq!(page.place("7", 12.0, anchor, 12.0), None);
+}
