@@ -73,8 +73,8 @@ typedef struct { uint8_t refusal; uint32_t bytes; } gantry_written;
  *
  * A length is in entries, not in bytes. points_len / 3 is the room for points: 8 or more, and 1,024 at most are used. The least of
  * corners_len / 4, neighbours_len / 4 and work_len / 3 is the room for cells: 6 or more, and 4,096 at most are used. An insertion
- * counts the old cells and the new ones together, so leave room for more cells than the mesh ends with. Entries past the mesh's
- * own may hold anything.
+ * counts the old cells and the new ones together, so leave room for more cells than the mesh ends with. Less room than the record
+ * has points or cells is no mesh (3). Entries past the mesh's own may hold anything.
  */
 #define GANTRY_TABLES                                                              \
     uint32_t *points, size_t points_len, uint16_t *corners, size_t corners_len,    \
@@ -96,7 +96,8 @@ gantry_inserted gantry_insert_answers(gantry_mesh mesh, GANTRY_TABLES,
 
 /*
  * Inserts nodes, three numbers each, up to the first that is refused: then place is its place in the list, from 0, and the nodes
- * before it stay in. Refusals 1 to 3 refuse the whole list, with place 0.
+ * before it stay in. nodes_len counts numbers, and one or two after the last whole node are not read: an accepted list has place
+ * nodes_len / 3. Refusals 1 to 3 refuse the whole list, with place 0.
  */
 gantry_listed gantry_insert_list(gantry_mesh mesh, GANTRY_TABLES, const uint32_t *nodes, size_t nodes_len);
 

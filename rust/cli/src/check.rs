@@ -6,8 +6,6 @@ use gantry::{Cell, Position};
 
 use crate::grid::Grid;
 
-const NO_NEIGHBOUR: u16 = 65_535;
-
 /// Whether a condition holds: with some numbers, or with what fails.
 pub type Outcome = Result<String, String>;
 
@@ -24,7 +22,7 @@ pub fn is_mesh(grid: &Grid) -> bool {
     let cells = grid.cells.len();
     let mut points = grid.points.as_flattened().to_vec();
     let corner = |point: usize| point as u16;
-    let neighbour = |across: Option<usize>| across.map_or(NO_NEIGHBOUR, |cell| cell as u16);
+    let neighbour = |across: Option<usize>| across.map_or(raw::NO_NEIGHBOUR, |cell| cell as u16);
     let mut corners: Vec<u16> = grid
         .cells
         .iter()

@@ -2,7 +2,7 @@
 
 use gantry::{Position, SIDE_LIMIT};
 
-use crate::grouped;
+use crate::{grouped, shown};
 
 /// What is wrong with a line.
 #[derive(Debug, PartialEq, Eq)]
@@ -21,30 +21,41 @@ impl Fault {
     }
 }
 
-/// Semicolons separate where there are some, else commas unless there are tabs, else blanks and tabs: the others then stand in
-/// a number, and it is refused.
-pub fn split(line: &str) -> Vec<String> {
-    let line = line.split('#').next().unwrap_or("");
-    let separator = match (line.contains(';'), line.contains(','), line.contains('\t')) {
-        (true, _, _) => Some(';'),
-        (false, true, false) => Some(','),
-        _ => None,
+/// Further columns are not looked at: there are too many anyway.
+const FIELD_LIMIT: usize = 100;
+
+/// A line without its comment, which begins with a `#` before a blank or the end: `#VALUE!` is none.
+pub fn without_comment(line: &str) -> &str {
+    let begins = |&(place, _): &(usize, &str)| {
+        let rest = &line[place + 1..];
+        rest.is_empty() || rest.starts_with(|c: char| c.is_ascii_whitespace())
     };
+    match line.match_indices('#').find(begins) {
+        Some((place, _)) => &line[..place],
+        None => line,
+    }
+}
+
+/// Semicolons separate where there are some, else tabs, else commas, else blanks. What does not separate stands in a field,
+/// and that is no number then.
+pub fn split(line: &str) -> Vec<String> {
+    let separator = [';', '\t', ','].into_iter().find(|&s| line.contains(s));
     let mut fields = vec![String::new()];
     let mut is_quoted = false;
     for character in line.chars() {
+        is_quoted ^= character == '"';
         let separates = separator.map_or(character.is_ascii_whitespace(), |s| s == character);
-        match fields.last_mut() {
-            _ if character == '"' => is_quoted = !is_quoted,
-            _ if separates && !is_quoted => fields.push(String::new()),
-            Some(field) => field.push(character),
-            None => {}
+        if !separates || is_quoted {
+            if let Some(field) = fields.last_mut() {
+                field.push(character);
+            }
+        } else if fields.len() < FIELD_LIMIT {
+            fields.push(String::new());
+        } else {
+            break;
         }
     }
-    let mut fields: Vec<String> = fields
-        .iter()
-        .map(|field| field.trim().to_string())
-        .collect();
+    let mut fields: Vec<String> = fields.iter().map(|field| unquoted(field)).collect();
     if separator.is_none() {
         fields.retain(|field| !field.is_empty());
     }
@@ -55,45 +66,79 @@ pub fn split(line: &str) -> Vec<String> {
     fields
 }
 
+fn unquoted(field: &str) -> String {
+    let field = field.trim();
+    let inner = field.strip_prefix('"').and_then(|f| f.strip_suffix('"'));
+    inner.unwrap_or(field).trim().to_string()
+}
+
 fn is_sign(character: char) -> bool {
     ['-', '−', '+'].contains(&character)
 }
 
 /// Does it begin as a number does?
 pub fn is_like_a_number(field: &str) -> bool {
-    let field = field
-        .trim_start_matches(is_sign)
-        .trim_start_matches(['.', ',']);
-    field.starts_with(|c: char| c.is_ascii_digit())
+    let digits = field.trim_start_matches(is_sign);
+    let digits = digits.trim_start_matches(['.', ',']);
+    digits.starts_with(|c: char| c.is_ascii_digit())
+}
+
+/// May it stand in a heading? It has no digits but in brackets, and is not a spreadsheet's error as `#VALUE!`.
+pub fn is_of_heading(field: &str) -> bool {
+    let mut depth = 0_usize;
+    let has_digit = field.chars().any(|c| {
+        match c {
+            '[' | '(' => depth += 1,
+            ']' | ')' => depth = depth.saturating_sub(1),
+            _ => {}
+        }
+        depth == 0 && c.is_numeric()
+    });
+    !has_digit && !field.starts_with('#')
+}
+
+/// The axes that a heading names by a letter of its own, in its order.
+pub fn axes(line: &str) -> Vec<char> {
+    let mut axes = Vec::new();
+    for word in line.split(|c: char| !c.is_alphanumeric()) {
+        let axis = match word {
+            "x" | "X" => 'x',
+            "y" | "Y" => 'y',
+            "z" | "Z" => 'z',
+            _ => continue,
+        };
+        if !axes.contains(&axis) {
+            axes.push(axis);
+        }
+    }
+    axes
 }
 
 /// Three numbers, or what is wrong with the fields; `wanted` says what has three.
 pub fn position(fields: &[String], wanted: &str) -> Result<Position, Fault> {
-    let count = fields.len();
-    match fields {
-        [x, y, z] => Ok([number(x)?, number(y)?, number(z)?]),
-        [_] => Err(Fault::new(format!("1 column, and {wanted}"))),
-        _ => Err(Fault {
-            what: format!("{count} columns, and {wanted}"),
-            is_broken_number: true,
-        }),
+    if let [x, y, z] = fields {
+        return Ok([number(x, 1)?, number(y, 2)?, number(z, 3)?]);
     }
+    let count = match fields.len() {
+        1 => "1 column".to_string(),
+        FIELD_LIMIT => format!("{FIELD_LIMIT} columns or more"),
+        count => format!("{count} columns"),
+    };
+    Err(Fault::new(format!("{count}, and {wanted}")))
 }
 
-fn number(field: &str) -> Result<u32, Fault> {
-    let digits = field.strip_prefix('+').unwrap_or(field);
-    let is_whole = !digits.is_empty() && digits.bytes().all(|byte| byte.is_ascii_digit());
-    match digits.parse() {
-        Ok(number) if is_whole => Ok(number),
-        _ if is_whole => {
-            let limit = grouped(SIDE_LIMIT as usize);
-            Err(Fault::new(format!(
-                "{} is too large: at most {limit}",
-                shown(field)
-            )))
-        }
-        _ => Err(no_number(field)),
+fn number(field: &str, column: usize) -> Result<u32, Fault> {
+    if field.is_empty() {
+        return Err(Fault::new(format!("column {column} is empty")));
     }
+    let digits = field.strip_prefix('+').unwrap_or(field);
+    if !digits.bytes().all(|byte| byte.is_ascii_digit()) {
+        return Err(no_number(field));
+    }
+    digits.parse().map_err(|_| {
+        let (shown, limit) = (shown(field), grouped(SIDE_LIMIT as usize));
+        Fault::new(format!("{shown} is too large: at most {limit}"))
+    })
 }
 
 fn no_number(field: &str) -> Fault {
@@ -101,9 +146,6 @@ fn no_number(field: &str) -> Fault {
         let fits = |c: char| c.is_ascii_digit() || is_sign(c) || more.contains(c);
         is_like_a_number(field) && field.chars().all(fits)
     };
-    if field.is_empty() {
-        return Fault::new("a column without a number".to_string());
-    }
     let is_negative = field.starts_with(['-', '−']) && is_like_a_number(field);
     let is_broken_number = !is_negative && is_made_of(".,' \u{a0}\u{202f}\u{2019}_");
     let what = if is_negative {
@@ -112,6 +154,8 @@ fn no_number(field: &str) -> Fault {
         "is not a whole number: scale to whole steps"
     } else if is_made_of(".,eE") {
         "is in scientific notation: format the column as whole numbers and export it again"
+    } else if field.starts_with('#') {
+        "is a spreadsheet's error: repair the cell or widen the column, and export it again"
     } else {
         "is not a number"
     };
@@ -119,12 +163,4 @@ fn no_number(field: &str) -> Fault {
         what: format!("{} {what}", shown(field)),
         is_broken_number,
     }
-}
-
-/// For a message: in quotes, cut where it is long, without control characters.
-fn shown(field: &str) -> String {
-    const LONGEST: usize = 40;
-    let cut: String = field.chars().take(LONGEST).collect();
-    let dots = if cut.len() < field.len() { ".." } else { "" };
-    format!("'{}{dots}'", cut.escape_debug())
 }

@@ -6,10 +6,10 @@ use std::io::{self, Read};
 
 use gantry::{read_nodes, NodeFile, Refusal, NODE_LIMIT};
 
-use crate::{because, grouped, listing, Failure};
+use crate::{because, grouped, listing, printable, Failure};
 
 /// More is not read.
-pub const INPUT_LIMIT: usize = 1 << 24;
+pub const INPUT_LIMIT: usize = 1 << 22;
 
 pub struct Source {
     /// As messages call it.
@@ -30,7 +30,7 @@ impl Source {
     pub fn read(word: &OsStr) -> Result<Source, Failure> {
         let name = match word.to_str() {
             Some("-") => "standard input".to_string(),
-            _ => word.display().to_string(),
+            _ => printable(word),
         };
         let bytes = match word.to_str() {
             Some("-") => read_all(io::stdin()),
@@ -49,34 +49,26 @@ impl Source {
     }
 
     /// A node file has a byte 0: its count is at most 1,016, in four bytes. Text and listings have none.
-    pub fn kind(&self) -> Result<Kind, Failure> {
+    pub fn kind(&self) -> Kind {
         let bytes = &self.bytes;
         if bytes.is_empty() {
-            return Ok(Kind::RefusedNodes(Refusal::Trailer));
-        }
-        if !bytes.contains(&0) {
-            return Ok(match listing::begins(bytes) {
-                true => Kind::Listing,
-                false => Kind::Text,
-            });
-        }
-        match read_nodes(bytes) {
-            Ok(file) => Ok(Kind::Nodes(file)),
-            Err(_) if bytes.starts_with(&[0xff, 0xfe]) || bytes.starts_with(&[0xfe, 0xff]) => {
-                Err(self.failure("text in UTF-16: save it as CSV or text in UTF-8"))
-            }
-            Err(refusal) => Ok(Kind::RefusedNodes(refusal)),
+            Kind::RefusedNodes(Refusal::Trailer)
+        } else if bytes.contains(&0) {
+            read_nodes(bytes).map_or_else(Kind::RefusedNodes, Kind::Nodes)
+        } else if listing::begins(bytes) {
+            Kind::Listing
+        } else {
+            Kind::Text
         }
     }
 
-    /// A node file that was refused, with its own numbers.
+    /// A node file that was refused, with its own numbers, or what it is instead.
     pub fn refused(&self, refusal: Refusal) -> Failure {
         let why = match (refusal, self.trailer()) {
-            (Refusal::Trailer, None) if self.bytes.is_empty() => "it is empty".to_string(),
-            (Refusal::Trailer, None) => {
-                format!("it has {} bytes, and a trailer has 20", self.bytes.len())
-            }
-            (Refusal::Trailer, Some(trailer)) => wrong_trailer(trailer, self.bytes.len() - 20),
+            (Refusal::Trailer, trailer) => self.no_node_file().unwrap_or_else(|| match trailer {
+                Some(trailer) => wrong_trailer(trailer, self.bytes.len() - 20),
+                None => format!("it has {} bytes, and a trailer has 20", self.bytes.len()),
+            }),
             (_, Some([x, y, z, ..])) => format!("its box is {x} {y} {z}; {}", refusal.when()),
             (_, None) => refusal.when().to_string(),
         };
@@ -84,6 +76,20 @@ impl Source {
             messages: vec![format!("{}: {}", self.name, because(refusal, &why))],
             refusal: Some(refusal),
         }
+    }
+
+    fn no_node_file(&self) -> Option<String> {
+        let bytes = &self.bytes[..];
+        let what = if bytes.is_empty() {
+            "it is empty"
+        } else if bytes.starts_with(b"PK\x03\x04") {
+            "it is a spreadsheet file or an archive: export the nodes as CSV"
+        } else if is_utf_16(bytes) {
+            "it is text in UTF-16: save it as CSV or text in UTF-8"
+        } else {
+            return None;
+        };
+        Some(what.to_string())
     }
 
     /// Sides, count and distance.
@@ -104,6 +110,20 @@ fn wrong_trailer([_, _, _, count, distance]: [u32; 5], before: usize) -> String 
         format!("{counts}, and 12 × {count} is {wanted}")
     } else {
         format!("{counts}, and {before} bytes stand before the trailer: is it whole?")
+    }
+}
+
+/// A byte order mark and no character 0; or, without the mark, every second byte 0.
+fn is_utf_16(bytes: &[u8]) -> bool {
+    let (units, _) = bytes.as_chunks::<2>();
+    let is_latin = |high: usize| {
+        let mut units = units.iter();
+        units.all(|unit| unit[high] == 0 && unit[1 - high] != 0)
+    };
+    match units {
+        [[0xff, 0xfe] | [0xfe, 0xff], rest @ ..] => !rest.contains(&[0, 0]),
+        [] => false,
+        _ => is_latin(0) || is_latin(1),
     }
 }
 

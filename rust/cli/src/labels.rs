@@ -64,7 +64,7 @@ impl Rectangle {
 /// How wide a digit is, and how high, at font size 1.
 const DIGIT: [f64; 2] = [0.58, 0.74];
 /// Kept free beside a label, and above and below.
-const GAP: [f64; 2] = [3.0, 1.5];
+const GAP: [f64; 2] = [4.0, 1.5];
 const RINGS: usize = 12;
 const RING: f64 = 5.0;
 const DIRECTIONS: usize = 16;

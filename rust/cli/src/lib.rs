@@ -15,6 +15,8 @@ pub mod text;
 pub mod vtk;
 pub mod words;
 
+use std::ffi::OsStr;
+
 use gantry::Refusal;
 
 /// What a command leaves: its output, and what it says on standard error.
@@ -78,4 +80,32 @@ pub fn spaced([x, y, z]: gantry::Position) -> String {
 /// A refusal by number and name, and why it was answered.
 pub fn because(refusal: Refusal, why: &str) -> String {
     format!("refused {} ({}): {why}", refusal.number(), refusal.name())
+}
+
+/// Control characters escaped.
+fn escaped(text: &str) -> String {
+    let escape = |c: char| match c.is_control() {
+        true => c.escape_default().to_string(),
+        false => c.to_string(),
+    };
+    text.chars().map(escape).collect()
+}
+
+/// Of input, for a message: in quotes, and cut where it is long.
+pub fn shown(text: &str) -> String {
+    const LONGEST: usize = 40;
+    let cut: String = text.chars().take(LONGEST).collect();
+    let dots = if cut.len() < text.len() { ".." } else { "" };
+    format!("'{}{dots}'", escaped(&cut))
+}
+
+/// A file's name or a word, for a message.
+pub fn printable(name: &OsStr) -> String {
+    escaped(&name.to_string_lossy())
+}
+
+/// `1 node`, `2 nodes`
+pub fn counted(count: usize, what: &str) -> String {
+    let ending = if count == 1 { "" } else { "s" };
+    format!("{count} {what}{ending}")
 }

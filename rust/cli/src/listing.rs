@@ -6,7 +6,7 @@ use gantry::{Cell, Mesh, Position, Refusal, Stopped, CELL_LIMIT, POINT_LIMIT};
 
 use crate::grid::Grid;
 use crate::survey::Survey;
-use crate::{grouped, spaced};
+use crate::{counted, grouped, shown, spaced};
 
 /// The listing program reads no more bytes of a node file.
 pub const FILE_LIMIT: usize = 65_536;
@@ -56,47 +56,56 @@ pub fn begins(bytes: &[u8]) -> bool {
 /// The grid of a listing, with the coordinates of the survey that it was made from; or what is wrong with it.
 pub fn read(listing: &[u8], survey: &Survey) -> Result<Grid, String> {
     let text = String::from_utf8_lossy(listing);
-    let mut lines = text.lines();
-    let head = lines.next().unwrap_or("");
-    let (sides, points, cells) = parse_head(head)
-        .ok_or_else(|| format!("line 1: '{head}' is not 'box X Y Z points P cells C'"))?;
-    if points > POINT_LIMIT || cells > CELL_LIMIT {
-        let limits = [POINT_LIMIT, CELL_LIMIT].map(grouped);
+    let lines: Vec<&str> = text.trim_end().lines().collect();
+    let head = lines.first().copied().unwrap_or("");
+    let Head {
+        sides,
+        points,
+        cells,
+    } = read_head(head, survey).map_err(|fault| format!("line 1: {fault}"))?;
+    let rows = lines.get(1..1 + cells).ok_or_else(|| {
+        let there = lines.len() - 1;
+        format!("ends after {there} of {cells} cells")
+    })?;
+    let read_row = |(number, row): (usize, &&str)| {
+        let cell = parse_cell(row, number, points, cells);
+        cell.map_err(|fault| format!("line {}: {fault}", number + 2))
+    };
+    let rows: Result<Vec<Cell>, String> = rows.iter().enumerate().map(read_row).collect();
+    let cells_read = rows?;
+    let place = read_end(&lines[1 + cells..], survey);
+    let listed = place.map_err(|fault| format!("line {}: {fault}", cells + 2))?;
+    if points != 8 + listed {
+        let nodes = survey.nodes.len();
+        let name = &survey.name;
         return Err(format!(
-            "line 1: at most {} points and {} cells",
-            limits[0], limits[1]
+            "line 1: {points} points, and with {name} there are {}",
+            8 + nodes
         ));
     }
-    if sides != survey.sides {
+    let points = points_of(sides, &survey.nodes[..listed]);
+    Ok(Grid {
+        sides,
+        points: points.ok_or_else(|| format!("a node of {} lies outside the box", survey.name))?,
+        cells: cells_read,
+    })
+}
+
+fn read_head(line: &str, survey: &Survey) -> Result<Head, String> {
+    let wanted = || format!("{} is not 'box X Y Z points P cells C'", shown(line));
+    let head = parse_head(line).ok_or_else(wanted)?;
+    if head.points > POINT_LIMIT || head.cells > CELL_LIMIT {
+        let [points, cells] = [POINT_LIMIT, CELL_LIMIT].map(grouped);
+        return Err(format!("at most {points} points and {cells} cells"));
+    }
+    if head.sides != survey.sides {
         return Err(format!(
-            "line 1: the box of {} is {}",
+            "the box of {} is {}",
             survey.name,
             spaced(survey.sides)
         ));
     }
-    let mut grid = Grid {
-        sides,
-        points: Vec::new(),
-        cells: Vec::new(),
-    };
-    for number in 0..cells {
-        let line = lines.next().unwrap_or("");
-        let cell = parse_cell(line, number, points, cells)
-            .ok_or_else(|| format!("line {}: '{line}' is not cell {number}", number + 2))?;
-        grid.cells.push(cell);
-    }
-    let listed = parse_end(lines, survey.nodes.len())
-        .ok_or_else(|| format!("line {}: not 'stopped', a place and a number", cells + 2))?;
-    if points != 8 + listed {
-        return Err(format!(
-            "line 1: {points} points, and {} has {} nodes",
-            survey.name,
-            survey.nodes.len()
-        ));
-    }
-    grid.points = points_of(sides, &survey.nodes[..listed])
-        .ok_or_else(|| format!("line 1: a node of {} lies outside the box", survey.name))?;
-    Ok(grid)
+    Ok(head)
 }
 
 /// The box corners, then the nodes.
@@ -109,46 +118,76 @@ fn points_of(sides: Position, nodes: &[Position]) -> Option<Vec<Position>> {
 }
 
 /// `box X Y Z points P cells C`
-fn parse_head(line: &str) -> Option<(Position, usize, usize)> {
+struct Head {
+    sides: Position,
+    points: usize,
+    cells: usize,
+}
+
+fn parse_head(line: &str) -> Option<Head> {
     let words: Vec<&str> = line.split(' ').collect();
     let ["box", x, y, z, "points", points, "cells", cells] = words[..] else {
         return None;
     };
     let side = |word: &str| word.parse().ok();
-    let sides = [side(x)?, side(y)?, side(z)?];
-    Some((sides, points.parse().ok()?, cells.parse().ok()?))
+    Some(Head {
+        sides: [side(x)?, side(y)?, side(z)?],
+        points: points.parse().ok()?,
+        cells: cells.parse().ok()?,
+    })
 }
 
 /// The number, the corners, the neighbours.
-fn parse_cell(line: &str, number: usize, points: usize, cells: usize) -> Option<Cell> {
+fn parse_cell(line: &str, number: usize, points: usize, cells: usize) -> Result<Cell, String> {
+    let wrong = || {
+        format!(
+            "{} is not cell {number}, its corners and neighbours",
+            shown(line)
+        )
+    };
     let words: Vec<&str> = line.split(' ').collect();
-    let [first, a, b, c, d, e, f, g, h] = words[..] else {
-        return None;
+    let [first, ref words @ ..] = words[..] else {
+        return Err(wrong());
     };
-    let below = |word: &str, limit: usize| word.parse().ok().filter(|&n: &usize| n < limit);
-    let corner = |word| below(word, points);
+    let (&[a, b, c, d, e, f, g, h], true) = (words, first == number.to_string()) else {
+        return Err(wrong());
+    };
+    let below = |word: &str, limit: usize, what: &str| match word.parse() {
+        Ok(number) if number < limit => Ok(number),
+        Ok(number) => Err(format!("{what} {number}, and the listing has {limit}")),
+        Err(_) => Err(wrong()),
+    };
+    let corner = |word| below(word, points, "point");
     let neighbour = |word| match word {
-        "-" => Some(None),
-        word => below(word, cells).map(Some),
+        "-" => Ok(None),
+        word => below(word, cells, "cell").map(Some),
     };
-    (first == number.to_string()).then_some(())?;
-    Some(Cell {
+    Ok(Cell {
         corners: [corner(a)?, corner(b)?, corner(c)?, corner(d)?],
         neighbours: [neighbour(e)?, neighbour(f)?, neighbour(g)?, neighbour(h)?],
     })
 }
 
 /// How many nodes went in: all of them, or as many as a last line `stopped`, place and number says.
-fn parse_end<'a>(lines: impl Iterator<Item = &'a str>, nodes: usize) -> Option<usize> {
-    let lines: Vec<&str> = lines.collect();
-    let [line] = lines[..] else {
-        return lines.is_empty().then_some(nodes);
+fn read_end(lines: &[&str], survey: &Survey) -> Result<usize, String> {
+    let nodes = survey.nodes.len();
+    let [line, more @ ..] = lines else {
+        return Ok(nodes);
     };
     let words: Vec<&str> = line.split(' ').collect();
-    let ["stopped", place, refusal] = words[..] else {
-        return None;
+    let place = match words[..] {
+        ["stopped", place, refusal] if more.is_empty() && refusal.parse::<u8>().is_ok() => {
+            place.parse().ok()
+        }
+        _ => None,
     };
-    refusal.parse::<u8>().ok()?;
-    let place = place.parse().ok()?;
-    (place < nodes).then_some(place)
+    match place {
+        Some(place) if place < nodes => Ok(place),
+        Some(place) => Err(format!(
+            "stopped at place {place}, and {} has {}",
+            survey.name,
+            counted(nodes, "node")
+        )),
+        None => Err(format!("{} where the cells have ended", shown(line))),
+    }
 }

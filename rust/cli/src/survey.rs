@@ -6,7 +6,7 @@ use gantry::{Mesh, NodeFile, Position, Refusal, Stopped, CELL_LIMIT};
 
 use crate::input::{Kind, Source};
 use crate::text::{self, Reading};
-use crate::{because, grouped, spaced, Failure};
+use crate::{because, counted, grouped, spaced, Failure};
 
 /// A box and its nodes, from a node file or from text.
 #[derive(Debug)]
@@ -15,7 +15,8 @@ pub struct Survey {
     pub name: String,
     pub sides: Position,
     pub nodes: Vec<Position>,
-    /// Of text, the line of each node.
+    /// Of text, the line of the box, if it stands there, and that of each node.
+    box_line: Option<usize>,
     lines: Vec<usize>,
     pub notes: Vec<String>,
     /// How many bytes a node file has.
@@ -31,7 +32,7 @@ pub struct Built {
 impl Survey {
     pub fn read(word: &OsStr, reading: Reading) -> Result<Survey, Failure> {
         let source = Source::read(word)?;
-        match source.kind()? {
+        match source.kind() {
             Kind::Nodes(file) => Survey::of_node_file(&source, file, reading),
             Kind::RefusedNodes(refusal) => Err(source.refused(refusal)),
             Kind::Listing => Err(source.failure(
@@ -53,6 +54,7 @@ impl Survey {
             name: source.name.clone(),
             sides: file.sides,
             nodes: file.nodes,
+            box_line: None,
             lines: Vec::new(),
             notes: Vec::new(),
             length: Some(source.bytes.len()),
@@ -74,10 +76,19 @@ impl Survey {
             name: source.name.clone(),
             sides: read.sides,
             nodes: read.nodes,
+            box_line: read.box_line,
             lines: read.lines,
-            notes: named(read.left_out),
+            notes: named(read.notes),
             length: None,
         })
+    }
+
+    /// In a line: the box, where it was taken from, and how many nodes there are.
+    pub fn summary(&self) -> String {
+        let of_line = self.box_line.map(|line| format!(" of line {line}"));
+        let (name, sides, of_line) = (&self.name, spaced(self.sides), of_line.unwrap_or_default());
+        let nodes = counted(self.nodes.len(), "node");
+        format!("{name}: box {sides}{of_line}, {nodes}")
     }
 
     /// By the proved builder.
@@ -100,7 +111,8 @@ impl Survey {
             Refusal::Taken => taken_by(mesh, node),
             Refusal::CellsFull => {
                 let limit = grouped(CELL_LIMIT);
-                format!("{cells} cells and the new ones exceed {limit}; {place} nodes went in")
+                let before = counted(place, "node");
+                format!("{cells} cells and the new ones exceed {limit}; {before} went in: use fewer, or divide the box")
             }
             _ => refusal.when().to_string(),
         };

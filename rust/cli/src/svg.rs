@@ -6,15 +6,21 @@ use std::fmt::Write;
 
 use gantry::Position;
 
+use crate::counted;
 use crate::grid::Grid;
 use crate::labels::{Page, Point2, Rectangle};
 
 /// Pixels of the picture's longer side, without the margin, for few points.
 const SIZE: f64 = 440.0;
 const MARGIN: f64 = 30.0;
-/// A line of the caption.
+/// A line of the caption, and the width of a character in it.
 const LINE: f64 = 16.0;
+const CHARACTER: f64 = 6.6;
 const FONT: f64 = 12.0;
+/// How much of an edge has no border at either end.
+const OPEN_END: f64 = 14.0;
+/// A label farther away than this is joined to what it names.
+const LEADER: f64 = 16.0;
 /// The longest side is drawn at most so many times as long as another.
 const SLENDER: f64 = 4.0;
 /// Points and cells are numbered where there are at most so many.
@@ -108,6 +114,14 @@ fn view(points: &[Position], stretch: Vector) -> View {
     }
 }
 
+/// A part of the way from one to the other.
+fn between(from: Point2, to: Point2, part: f64) -> Point2 {
+    Point2 {
+        x: from.x + part * (to.x - from.x),
+        y: from.y + part * (to.y - from.y),
+    }
+}
+
 /// Between a far and a near colour.
 fn colour(near: f64) -> String {
     let mix = |far: f64, close: f64| (far + (close - far) * near).round() as u8;
@@ -121,6 +135,14 @@ fn is_on_box_edge(sides: Position, [p, q]: [Position; 2]) -> bool {
     (0..3).filter(on_wall).count() >= 2
 }
 
+fn point_colour(point: usize) -> &'static str {
+    if point < 8 {
+        BOX_COLOUR
+    } else {
+        NODE_COLOUR
+    }
+}
+
 fn radius(point: Seen) -> f64 {
     2.0 + 1.5 * point.near
 }
@@ -130,6 +152,8 @@ struct Picture<'a> {
     view: View,
     edges: Vec<[usize; 2]>,
     text: String,
+    /// Labels that there was no place for.
+    left_out: usize,
 }
 
 impl Picture<'_> {
@@ -146,15 +170,22 @@ impl Picture<'_> {
         let ends = edge.map(|point| self.view.points[point]);
         let near = middle(&ends).near;
         let width = if is_of_box { 2.2 } else { 0.7 + 0.8 * near };
-        let ends = ends.map(|end| end.at);
-        // A white border, so that what is nearer is seen to pass over.
-        self.line(ends, "#ffffff", width + 3.0);
-        self.line(ends, &colour(near), width);
+        let [a, b] = ends.map(|end| end.at);
+        // A white border, so that what is nearer is seen to pass over; not at the ends, where other edges end too.
+        let length = (a.x - b.x).hypot(a.y - b.y);
+        if length > 2.0 * OPEN_END {
+            let part = OPEN_END / length;
+            self.line(
+                [between(a, b, part), between(b, a, part)],
+                "#ffffff",
+                width + 3.0,
+            );
+        }
+        self.line([a, b], &colour(near), width);
     }
 
     fn draw_point(&mut self, point: usize) {
-        let seen = self.view.points[point];
-        let fill = if point < 8 { BOX_COLOUR } else { NODE_COLOUR };
+        let (seen, fill) = (self.view.points[point], point_colour(point));
         let _ = writeln!(
             self.text,
             "<circle cx=\"{:.1}\" cy=\"{:.1}\" r=\"{:.1}\" fill=\"{fill}\"/>",
@@ -164,8 +195,15 @@ impl Picture<'_> {
         );
     }
 
-    /// With a white border.
-    fn label(&mut self, centre: Point2, fill: &str, words: &str) {
+    /// A label at least `clear` away from what it names; it is left out where there is no place for it.
+    fn label(&mut self, page: &mut Page, words: &str, fill: &str, anchor: Point2, clear: f64) {
+        let Some(centre) = page.place(words, FONT, anchor, clear) else {
+            self.left_out += 1;
+            return;
+        };
+        if (centre.x - anchor.x).hypot(centre.y - anchor.y) > LEADER {
+            self.line([anchor, between(centre, anchor, 0.3)], fill, 0.5);
+        }
         let _ = writeln!(
             self.text,
             "<text x=\"{:.1}\" y=\"{:.1}\" fill=\"{fill}\" stroke=\"#ffffff\" stroke-width=\"3\" paint-order=\"stroke\">{words}</text>",
@@ -198,37 +236,41 @@ impl Picture<'_> {
 
     fn draw_labels(&mut self) {
         let mut page = self.page();
-        if self.grid.points.len() <= NUMBERED_POINTS {
-            for point in 0..self.grid.points.len() {
-                let seen = self.view.points[point];
-                let fill = if point < 8 { BOX_COLOUR } else { NODE_COLOUR };
-                let words = point.to_string();
-                if let Some(centre) = page.place(&words, FONT, seen.at, radius(seen) + 0.7 * FONT) {
-                    self.label(centre, fill, &words);
-                }
+        let (points, cells) = (self.grid.points.len(), self.grid.cells.len());
+        if points <= NUMBERED_POINTS {
+            for point in 0..points {
+                let (seen, fill) = (self.view.points[point], point_colour(point));
+                let clear = radius(seen) + 0.7 * FONT;
+                self.label(&mut page, &point.to_string(), fill, seen.at, clear);
             }
         }
-        if self.grid.cells.len() <= NUMBERED_CELLS {
+        if cells <= NUMBERED_CELLS {
             for (number, cell) in self.grid.cells.iter().enumerate() {
                 let anchor = middle(&cell.corners.map(|point| self.view.points[point])).at;
-                let words = number.to_string();
-                if let Some(centre) = page.place(&words, FONT, anchor, 0.0) {
-                    self.label(centre, CELL_COLOUR, &words);
-                }
+                self.label(&mut page, &number.to_string(), CELL_COLOUR, anchor, 0.0);
             }
         }
         // The axes run from point 0 to points 1, 2 and 4.
         for (axis, end) in [("x", 1), ("y", 2), ("z", 4)] {
             let [from, to] = [0, end].map(|point| self.view.points[point].at);
             // Off the middle, where a node of a lattice may be.
-            let anchor = Point2 {
-                x: 0.7 * from.x + 0.3 * to.x,
-                y: 0.7 * from.y + 0.3 * to.y,
-            };
-            if let Some(centre) = page.place(axis, FONT, anchor, 0.9 * FONT) {
-                self.label(centre, QUIET_COLOUR, axis);
-            }
+            let anchor = between(from, to, 0.3);
+            self.label(&mut page, axis, QUIET_COLOUR, anchor, 0.9 * FONT);
         }
+    }
+
+    /// The counts, the lines `more`, the colours.
+    fn caption(&self, more: &[String]) -> Vec<String> {
+        let mut lines = vec![self.grid.summary()];
+        lines.extend_from_slice(more);
+        lines.push(self.colours());
+        if self.left_out > 0 {
+            lines.push(format!(
+                "{} left out for want of room",
+                counted(self.left_out, "label")
+            ));
+        }
+        lines
     }
 
     fn colours(&self) -> String {
@@ -244,7 +286,7 @@ impl Picture<'_> {
 
     fn draw_caption(&mut self, lines: &[String]) {
         for (row, words) in lines.iter().enumerate() {
-            let y = self.view.height + LINE * row as f64;
+            let y = self.view.height + LINE * (row as f64 + 0.5);
             let words = escaped(words);
             let _ = writeln!(
                 self.text,
@@ -272,7 +314,7 @@ impl Grid {
         edges.collect()
     }
 
-    /// With a caption: the counts, the lines `more`, the colours.
+    /// With a caption that has the lines `more`.
     pub fn to_svg(&self, more: &[String]) -> String {
         let view = view(&self.points, stretch(self.sides));
         let near = |edge: &[usize; 2]| middle(&edge.map(|point| view.points[point])).near;
@@ -283,6 +325,7 @@ impl Grid {
             view,
             edges,
             text: String::new(),
+            left_out: 0,
         };
         for edge in picture.edges.clone() {
             picture.draw_edge(edge);
@@ -291,14 +334,15 @@ impl Grid {
             picture.draw_point(point);
         }
         picture.draw_labels();
-        let mut caption = vec![self.summary()];
-        caption.extend_from_slice(more);
-        caption.push(picture.colours());
+        let caption = picture.caption(more);
         picture.draw_caption(&caption);
-        let (width, height) = (
-            picture.view.width,
-            picture.view.height + LINE * caption.len() as f64,
-        );
+        let longest = caption
+            .iter()
+            .map(|line| line.chars().count())
+            .max()
+            .unwrap_or(0);
+        let width = (2.0 * MARGIN + CHARACTER * longest as f64).max(picture.view.width);
+        let height = picture.view.height + LINE * caption.len() as f64 + 0.5 * LINE;
         format!(
             "<svg xmlns=\"http://www.w3.org/2000/svg\" width=\"{width:.0}\" height=\"{height:.0}\" viewBox=\"0 0 {width:.1} {height:.1}\">\n\
              <rect width=\"100%\" height=\"100%\" fill=\"#ffffff\"/>\n\

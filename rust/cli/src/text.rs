@@ -1,13 +1,15 @@
 //! Nodes as text, written by hand or exported by a spreadsheet: the box `X Y Z` on the first line of numbers, unless it was
 //! given, then a node `x y z` a line. Numbers stand between blanks, tabs, commas or semicolons, perhaps in quotes. Headings
-//! before the first line of numbers, blank lines and what follows a `#` are passed over.
+//! above the first line of numbers, blank lines and comments are passed over; a heading has no number, and is told.
 
 use std::collections::{BTreeSet, HashMap};
 
 use gantry::{Mesh, Position, NODE_LIMIT, SIDE_LIMIT};
 
-use crate::fields::{is_like_a_number, position, split};
-use crate::{grouped, spaced};
+use crate::fields::{
+    axes, is_like_a_number, is_of_heading, position, split, without_comment, Fault,
+};
+use crate::{grouped, shown, spaced};
 
 /// How text is to be read.
 #[derive(Clone, Copy, Debug, Default)]
@@ -22,15 +24,17 @@ pub struct Reading {
 #[derive(Debug, PartialEq, Eq)]
 pub struct Read {
     pub sides: Position,
+    /// The line that the box was taken from; lines are counted from 1.
+    pub box_line: Option<usize>,
     pub nodes: Vec<Position>,
-    /// The line of each node, from 1.
+    /// The line of each node.
     pub lines: Vec<usize>,
-    /// What was left out.
-    pub left_out: Vec<String>,
+    /// What was passed over as a heading, and what was left out.
+    pub notes: Vec<String>,
 }
 
-/// At most so many lines are told of.
-const TOLD: usize = 20;
+/// At most so many faults are told.
+pub const FAULTS_TOLD: usize = 20;
 
 /// The nodes of a text, or what is wrong with it, a message a fault.
 pub fn read(bytes: &[u8], reading: Reading) -> Result<Read, Vec<String>> {
@@ -41,9 +45,6 @@ pub fn read(bytes: &[u8], reading: Reading) -> Result<Read, Vec<String>> {
     let mut reader = Reader::new(reading);
     for (number, line) in text.split('\n').enumerate() {
         reader.read_line(number + 1, line);
-        if reader.is_full() {
-            break;
-        }
     }
     reader.end()
 }
@@ -59,12 +60,7 @@ impl Frame {
     fn new(sides: Position, line: Option<usize>) -> Option<Frame> {
         let [x, y, z] = sides;
         let mesh = Mesh::start(x, y, z).ok()?;
-        let corners = mesh
-            .points()
-            .iter()
-            .zip(0..)
-            .map(|(&p, k)| (p, k))
-            .collect();
+        let corners = mesh.points().iter().copied().zip(0..).collect();
         Some(Frame {
             sides,
             corners,
@@ -73,9 +69,34 @@ impl Frame {
     }
 
     fn of_line(&self) -> String {
-        self.line
-            .map(|line| format!(" of line {line}"))
-            .unwrap_or_default()
+        let of = |line| format!(" of line {line}");
+        self.line.map(of).unwrap_or_default()
+    }
+}
+
+/// Said after the faults.
+#[derive(PartialEq, Eq, PartialOrd, Ord)]
+enum Hint {
+    Separators,
+    /// The line that the box was taken from.
+    Sides(usize),
+    LeaveOut,
+}
+
+impl Hint {
+    fn text(&self) -> String {
+        match self {
+            Hint::Separators => {
+                "numbers are written without decimals and without separators of thousands"
+                    .to_string()
+            }
+            Hint::Sides(line) => format!(
+                "line {line} was taken as the box; if it is a node, give the box by --box X Y Z"
+            ),
+            Hint::LeaveOut => {
+                "with --leave-out, box corners and repeated nodes are left out".to_string()
+            }
+        }
     }
 }
 
@@ -87,17 +108,11 @@ struct Reader {
     nodes: Vec<Position>,
     lines: Vec<usize>,
     line_of: HashMap<Position, usize>,
-    left_out: Vec<String>,
+    notes: Vec<String>,
+    /// The first ones, and how many there are.
     faults: Vec<String>,
+    fault_count: usize,
     hints: BTreeSet<Hint>,
-}
-
-/// Said after the faults.
-#[derive(Clone, Copy, PartialEq, Eq, PartialOrd, Ord)]
-enum Hint {
-    Separators,
-    Sides,
-    LeaveOut,
 }
 
 impl Reader {
@@ -109,96 +124,102 @@ impl Reader {
             nodes: Vec::new(),
             lines: Vec::new(),
             line_of: HashMap::new(),
-            left_out: Vec::new(),
+            notes: Vec::new(),
             faults: Vec::new(),
+            fault_count: 0,
             hints: BTreeSet::new(),
         }
     }
 
-    fn is_full(&self) -> bool {
-        self.nodes.len() > NODE_LIMIT
-    }
-
     fn fault(&mut self, line: usize, what: &str) {
-        self.faults.push(format!("line {line}: {what}"));
+        self.fault_count += 1;
+        if self.fault_count <= FAULTS_TOLD {
+            self.faults.push(format!("line {line}: {what}"));
+        }
     }
 
     fn read_line(&mut self, number: usize, line: &str) {
-        let fields = split(line);
+        let fields = split(without_comment(line));
+        if !self.has_begun {
+            let is_numbers = fields.iter().all(|field| is_like_a_number(field));
+            if fields.is_empty() || !is_numbers {
+                return self.pass_over(number, line, &fields);
+            }
+            self.has_begun = true;
+            if self.frame.is_none() {
+                return self.take_box(number, line, &fields);
+            }
+        }
         if fields.is_empty() {
             return;
         }
-        if !self.has_begun && !fields.iter().any(|field| is_like_a_number(field)) {
-            return self.read_heading(number, &fields);
-        }
-        let is_box = !self.has_begun && self.frame.is_none();
-        self.has_begun = true;
-        let what = if is_box {
-            "the box has three, X Y Z"
-        } else {
-            "a node has three, x y z"
-        };
-        match position(&fields, what) {
-            Ok(sides) if is_box => self.take_box(number, sides),
+        match position(&fields, "a node has three, x y z") {
             Ok(node) => self.take_node(number, node),
-            Err(fault) => {
-                if fault.is_broken_number {
-                    self.hints.insert(Hint::Separators);
-                }
-                self.fault(number, &fault.what);
-            }
+            Err(fault) => self.wrong_line(number, line, fault),
         }
     }
 
-    /// Passed over, unless it names the axes in another order.
-    fn read_heading(&mut self, line: usize, fields: &[String]) {
-        let axis = |field: &String| field.chars().next().map(|c| c.to_ascii_lowercase());
-        let named: Vec<char> = fields.iter().filter_map(axis).collect();
-        let mut sorted = named.clone();
-        sorted.sort_unstable();
-        if sorted == ['x', 'y', 'z'] && named != sorted {
-            let [a, b, c] = [0, 1, 2].map(|k| named[k]);
-            self.fault(
-                line,
-                &format!("the columns are {a} {b} {c}: put them in the order x y z"),
-            );
+    fn wrong_line(&mut self, number: usize, line: &str, fault: Fault) {
+        if fault.is_broken_number || line.contains([',', '.']) {
+            self.hints.insert(Hint::Separators);
+        }
+        self.fault(number, &fault.what);
+    }
+
+    /// A heading, or a blank line or comment above the numbers.
+    fn pass_over(&mut self, number: usize, line: &str, fields: &[String]) {
+        let (named, text) = (axes(line), shown(line.trim()));
+        if named.len() > 1 && named != ['x', 'y', 'z'] {
+            let named: String = named.iter().map(|axis| format!(" {axis}")).collect();
+            let fault = format!("a heading with the columns{named}; the order is x y z");
+            self.fault(number, &fault);
+        } else if !fields.iter().all(|field| is_of_heading(field)) {
+            let fault = format!("{text} is not a line of numbers; begin a heading with '# '");
+            self.fault(number, &fault);
+        } else if !fields.is_empty() {
+            let note = format!("line {number} passed over as a heading: {text}");
+            self.notes.push(note);
         }
     }
 
-    fn take_box(&mut self, line: usize, sides: Position) {
-        self.frame = Frame::new(sides, Some(line));
+    fn take_box(&mut self, number: usize, line: &str, fields: &[String]) {
+        let sides = match position(fields, "the box has three, X Y Z") {
+            Ok(sides) => sides,
+            Err(fault) => return self.wrong_line(number, line, fault),
+        };
+        self.frame = Frame::new(sides, Some(number));
+        let sides = spaced(sides);
         if self.frame.is_none() {
             let limit = grouped(SIDE_LIMIT as usize);
-            self.fault(
-                line,
-                &format!("a box {}: its sides are from 1 to {limit}", spaced(sides)),
-            );
+            self.hints.insert(Hint::Sides(number));
+            let fault = format!("a box {sides}: its sides are from 1 to {limit}");
+            self.fault(number, &fault);
+        } else if !self.notes.is_empty() {
+            // Below a heading a node is more likely than a box.
+            self.notes
+                .push(format!("line {number} is the box: {sides}"));
         }
     }
 
     fn take_node(&mut self, line: usize, node: Position) {
         // Without a box there is nothing more to say of a node.
         let Some(frame) = &self.frame else { return };
-        let place = spaced(node);
+        let (place, of_line) = (spaced(node), frame.of_line());
         if (0..3).any(|axis| node[axis] > frame.sides[axis]) {
-            let fault = format!(
-                "{place} is outside the box {}{}",
-                spaced(frame.sides),
-                frame.of_line()
-            );
-            self.hints.extend(frame.line.map(|_| Hint::Sides));
+            let sides = spaced(frame.sides);
+            self.hints.extend(frame.line.map(Hint::Sides));
+            let fault = format!("{place} is outside the box {sides}{of_line}");
             return self.fault(line, &fault);
         }
         let known = match (frame.corners.get(&node), self.line_of.get(&node)) {
             (Some(corner), _) => {
-                let of_line = frame.of_line();
                 format!("{place} is a corner of the box{of_line}, point {corner} from the start")
             }
             (None, Some(earlier)) => format!("same as line {earlier}, {place}"),
             (None, None) => return self.put_node(line, node),
         };
         if self.reading.leave_out {
-            self.left_out.push(format!("line {line} left out: {known}"));
+            self.notes.push(format!("line {line} left out: {known}"));
         } else {
             self.hints.insert(Hint::LeaveOut);
             self.fault(line, &format!("{known}: leave it out"));
@@ -209,53 +230,42 @@ impl Reader {
         self.nodes.push(node);
         self.lines.push(line);
         self.line_of.insert(node, line);
-        if self.is_full() {
-            self.fault(line, &format!("more than {} nodes", grouped(NODE_LIMIT)));
-        }
     }
 
     fn end(mut self) -> Result<Read, Vec<String>> {
-        if self.frame.is_none() && !self.has_begun {
-            self.faults.push(
-                "no line of numbers: the box X Y Z comes first, or is given by --box X Y Z"
-                    .to_string(),
-            );
+        if let Some(&line) = self.lines.get(NODE_LIMIT) {
+            let [count, limit] = [self.nodes.len(), NODE_LIMIT].map(grouped);
+            let fault =
+                format!("{count} nodes, and {limit} is the most: use fewer, or divide the box");
+            self.fault(line, &fault);
         }
-        let hints: Vec<String> = self.hints.iter().map(|&hint| self.hint(hint)).collect();
-        match self.frame {
-            Some(Frame { sides, .. }) if self.faults.is_empty() => Ok(Read {
-                sides,
+        match &self.frame {
+            Some(frame) if self.has_begun && self.fault_count == 0 => Ok(Read {
+                sides: frame.sides,
+                box_line: frame.line,
                 nodes: self.nodes,
                 lines: self.lines,
-                left_out: told(self.left_out),
+                notes: self.notes,
             }),
-            _ => Err(told(self.faults).into_iter().chain(hints).collect()),
+            _ => Err(self.told()),
         }
     }
 
-    fn hint(&self, hint: Hint) -> String {
-        match hint {
-            Hint::Separators => {
-                "numbers are written without decimals and without separators of thousands"
-                    .to_string()
-            }
-            Hint::Sides => {
-                let line = self.frame.as_ref().and_then(|frame| frame.line);
-                let line = line.unwrap_or_default();
-                format!("the box was taken from line {line}; if that is a node, give the box by --box X Y Z")
-            }
-            Hint::LeaveOut => {
-                "with --leave-out, box corners and repeated nodes are left out".to_string()
-            }
+    fn told(self) -> Vec<String> {
+        let more = self.fault_count - self.faults.len();
+        let mut told = self.faults;
+        if more > 0 {
+            told.push(format!("and {more} more"));
         }
+        match (self.has_begun, self.frame) {
+            (true, _) => {}
+            (false, Some(_)) => told.push("no line of numbers".to_string()),
+            (false, None) => told.push(
+                "no line of numbers: the box X Y Z comes first, or is given by --box X Y Z"
+                    .to_string(),
+            ),
+        }
+        told.extend(self.hints.iter().map(Hint::text));
+        told
     }
-}
-
-fn told(mut messages: Vec<String>) -> Vec<String> {
-    let more = messages.len().saturating_sub(TOLD);
-    messages.truncate(TOLD);
-    if more > 0 {
-        messages.push(format!("and {more} more"));
-    }
-    messages
 }

@@ -1,10 +1,11 @@
 //! The words of the command line.
 
 use std::ffi::{OsStr, OsString};
+use std::os::unix::ffi::OsStrExt;
 
 use gantry::{Position, SIDE_LIMIT};
 
-use crate::{grouped, Failure};
+use crate::{grouped, printable, Failure};
 
 /// An option that some command takes.
 #[derive(Clone, Copy, Debug, PartialEq, Eq)]
@@ -73,14 +74,10 @@ impl Words {
                 words.plain.push(word.clone());
                 continue;
             }
-            let text = word.to_string_lossy();
-            let (name, value) = match text.split_once('=') {
-                Some((name, value)) if name.starts_with("--") => (name, Some(value.into())),
-                _ => (&text[..], None),
-            };
-            let choice = Choice::named(name).filter(|choice| choices.contains(choice));
+            let (name, value) = parts(word);
+            let choice = Choice::named(&name).filter(|choice| choices.contains(choice));
             let choice = choice.ok_or_else(|| Failure::Usage(format!("unknown option {name}")))?;
-            words.set(choice, name, value, &mut rest)?;
+            words.set(choice, &name, value, &mut rest)?;
         }
         Ok(words)
     }
@@ -94,6 +91,7 @@ impl Words {
     ) -> Result<(), Failure> {
         let mut file = |value: Option<OsString>| {
             let value = value.or_else(|| rest.next().cloned());
+            let value = value.filter(|value| !value.is_empty());
             value.ok_or_else(|| Failure::Usage(format!("{name} wants a file")))
         };
         match choice {
@@ -106,6 +104,25 @@ impl Words {
             Choice::LeaveOut => self.leave_out = true,
         }
         Ok(())
+    }
+}
+
+/// `--name=value`, or an option's name alone.
+fn parts(word: &OsStr) -> (String, Option<OsString>) {
+    let bytes = word.as_bytes();
+    let split = bytes
+        .iter()
+        .position(|&byte| byte == b'=')
+        .filter(|_| bytes.starts_with(b"--"));
+    match split {
+        Some(place) => {
+            let value = OsStr::from_bytes(&bytes[place + 1..]);
+            (
+                printable(OsStr::from_bytes(&bytes[..place])),
+                Some(value.to_os_string()),
+            )
+        }
+        None => (printable(word), None),
     }
 }
 
@@ -135,7 +152,7 @@ fn sides<'a>(words: impl Iterator<Item = &'a OsString>) -> Result<Position, Fail
 pub fn numbers<const COUNT: usize>(words: &[OsString]) -> Result<[i64; COUNT], Failure> {
     let number = |word: &OsString| {
         let number = word.to_str().and_then(|word| word.parse().ok());
-        number.ok_or_else(|| Failure::Usage(format!("{} is not a whole number", word.display())))
+        number.ok_or_else(|| Failure::Usage(format!("{} is not a whole number", printable(word))))
     };
     let numbers: Vec<i64> = words.iter().map(number).collect::<Result<_, _>>()?;
     let count = numbers.len();

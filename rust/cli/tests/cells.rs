@@ -56,33 +56,67 @@ fn listings_that_do_not_fit() {
     let more = survey("more", &encode([4; 3], &[[1, 2, 3], [2, 2, 2]]));
     assert_eq!(
         error(&text, &more),
-        "line 1: 9 points, and more has 2 nodes"
+        "line 1: 9 points, and with more there are 10"
     );
     let cut: Vec<&str> = text.lines().take(12).collect();
-    assert_eq!(error(&cut.join("\n"), &one), "line 13: '' is not cell 11");
-    let wrong = text.replacen("\n3 ", "\n4 ", 1);
-    assert!(error(&wrong, &one).starts_with("line 5: '4 "));
+    assert_eq!(error(&cut.join("\n"), &one), "ends after 11 of 12 cells");
     let many = "box 4 4 4 points 9 cells 4097\n";
     assert_eq!(
         error(many, &one),
         "line 1: at most 1,024 points and 4,096 cells"
     );
-    for end in [
-        "more",
-        "stopped 0",
-        "stopped 1 5",
-        "stopped 0 5\nstopped 0 5",
-    ] {
-        let longer = format!("{text}{end}\n");
-        assert_eq!(
-            error(&longer, &one),
-            "line 14: not 'stopped', a place and a number"
-        );
-    }
     let outside = survey("outside", &encode([4; 3], &[[5, 0, 0]]));
     assert_eq!(
         error(&text, &outside),
-        "line 1: a node of outside lies outside the box"
+        "a node of outside lies outside the box"
+    );
+    // A blank last line is none.
+    assert!(listing::read(format!("{text}\n").as_bytes(), &one).is_ok());
+}
+
+#[test]
+fn wrong_lines_of_a_listing() {
+    let one = survey("one", &encode([4; 3], &[[1, 2, 3]]));
+    let (_, text) = listed(&one);
+    let line = |change: &str| {
+        let third = text.lines().nth(3).unwrap();
+        let text = text.replacen(&format!("\n{third}\n"), &format!("\n{change}\n"), 1);
+        listing::read(text.as_bytes(), &one).unwrap_err()
+    };
+    let no_cell =
+        |line: &str| format!("line 4: '{line}' is not cell 2, its corners and neighbours");
+    for wrong in [
+        "3 8 3 2 7 - 1 2 3",
+        "2 8 3 2 7 - 1 2",
+        "2 8 3 2 7 - 1 2 3 4",
+        "2 8 3 2 - - 1 2 3",
+        "2 8 3 2 7 - 1 2 x",
+        "",
+    ] {
+        assert_eq!(line(wrong), no_cell(wrong));
+    }
+    assert_eq!(
+        line("2 8 3 9 7 - 1 2 3"),
+        "line 4: point 9, and the listing has 9"
+    );
+    assert_eq!(
+        line("2 8 3 2 7 - 1 12 3"),
+        "line 4: cell 12, and the listing has 12"
+    );
+    let end = |end: &str| listing::read(format!("{text}{end}\n").as_bytes(), &one).unwrap_err();
+    for wrong in ["more", "stopped 0", "stopped 0 x"] {
+        assert_eq!(
+            end(wrong),
+            format!("line 14: '{wrong}' where the cells have ended")
+        );
+    }
+    assert_eq!(
+        end("stopped 0 5\nstopped 0 5"),
+        "line 14: 'stopped 0 5' where the cells have ended"
+    );
+    assert_eq!(
+        end("stopped 1 5"),
+        "line 14: stopped at place 1, and one has 1 node"
     );
 }
 

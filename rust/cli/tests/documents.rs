@@ -1,10 +1,13 @@
 //! What the documents repeat of the program.
 
+use std::ffi::OsString;
+
 use gantry::{Mesh, CELL_LIMIT, NODE_LIMIT, SIDE_LIMIT};
 use gantry_cli::grid::Grid;
 use gantry_cli::input::INPUT_LIMIT;
 use gantry_cli::listing::FILE_LIMIT;
-use gantry_cli::{grouped, svg};
+use gantry_cli::text::FAULTS_TOLD;
+use gantry_cli::{commands, grouped, svg};
 
 const CHANGELOG: &str = include_str!("../../../CHANGELOG.md");
 const MANUAL: &str = include_str!("../../../docs/MANUAL.md");
@@ -18,16 +21,21 @@ fn the_changelog_begins_with_this_version() {
 #[test]
 fn the_manual_s_box_is_the_command_s() {
     let mesh = Mesh::start(4, 4, 4).unwrap();
-    assert_eq!(
-        Grid::from(&mesh).to_svg(&[]),
-        include_str!("../../../docs/box.svg")
-    );
+    let picture = Grid::from(&mesh).to_svg(&[]);
+    // Not assert_eq, which would print both.
+    assert!(picture == include_str!("../../../docs/box.svg"));
+}
+
+fn help_of(name: &str) -> String {
+    let line = ["help", name].map(OsString::from);
+    let (done, _) = commands::perform(&line).expect("help");
+    String::from_utf8(done.output).expect("text")
 }
 
 #[test]
 fn the_manual_has_the_limits() {
     let (_, limits) = MANUAL.split_once("\n## Limits\n").unwrap();
-    let (limits, _) = limits.split_once("\nThe cells are the limit").unwrap();
+    let (limits, _) = limits.split_once("\n\nThe cells are").unwrap();
     for limit in [
         SIDE_LIMIT as usize,
         NODE_LIMIT,
@@ -37,10 +45,16 @@ fn the_manual_has_the_limits() {
     ] {
         assert!(limits.contains(&grouped(limit)), "{limit}");
     }
-    let numbered = format!(
-        "point numbers up to {} points and\n  cell numbers up to {} cells",
-        svg::NUMBERED_POINTS,
-        svg::NUMBERED_CELLS
-    );
-    assert!(MANUAL.contains(&numbered));
+    let (points, cells) = (svg::NUMBERED_POINTS, svg::NUMBERED_CELLS);
+    let words = MANUAL.split_whitespace().collect::<Vec<_>>().join(" ");
+    assert!(words.contains(&format!(
+        "point numbers up to {points} points and cell numbers up to {cells} cells"
+    )));
+    assert!(words.contains(&format!(
+        "each fault has its line, up to {FAULTS_TOLD} of them"
+    )));
+    let help = help_of("svg");
+    assert!(help.contains(&format!(
+        "at\nmost {points}, cells where there are at most {cells}."
+    )));
 }

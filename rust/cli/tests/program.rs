@@ -80,7 +80,13 @@ struct Ran {
 impl Ran {
     #[track_caller]
     fn done(self) -> String {
-        assert_eq!((self.status, &self.said[..]), (Some(0), ""));
+        self.done_with("")
+    }
+
+    /// With these messages.
+    #[track_caller]
+    fn done_with(self, said: &str) -> String {
+        assert_eq!((self.status, &self.said[..]), (Some(0), said));
         String::from_utf8(self.output).expect("text")
     }
 
@@ -128,7 +134,7 @@ fn wrong_words() {
         ("text a -o", "gantry: text: -o wants a file\nusage: gantry text FILE [OPTIONS]"),
         ("text a --leave-out=1", "gantry: text: --leave-out takes no =\nusage: gantry text FILE [OPTIONS]"),
         ("svg --listing - -", "gantry: svg: standard input can be only one of the two\nusage: gantry svg FILE [OPTIONS]"),
-        ("locate a 1 2", "gantry: locate: 2 numbers after FILE, and a position has three, x y z\nusage: gantry locate FILE x y z [OPTIONS]"),
+        ("locate a 1 2", "gantry: locate: 2 words after FILE, and a position has three, x y z\nusage: gantry locate FILE x y z [OPTIONS]"),
         ("locate a 1 2 z", "gantry: locate: z is not a whole number\nusage: gantry locate FILE x y z [OPTIONS]"),
     ];
     for (line, said) in cases {
@@ -150,7 +156,10 @@ fn wrong_words() {
 fn from_an_export_to_pictures() {
     let place = Place::new("export");
     place.put("s.csv", "\u{feff}x;y;z\r\n1;2;3\r\n2;2;0\r\n");
-    place.run("nodes --box 4 4 4 s.csv -o s.nodes", b"").done();
+    let heading = "gantry: s.csv: line 1 passed over as a heading: 'x;y;z'\n";
+    let written = place.run("nodes --box 4 4 4 s.csv -o s.nodes", b"");
+    let said = format!("{heading}gantry: s.csv: box 4 4 4, 2 nodes\n");
+    assert_eq!(written.done_with(&said), "");
     assert_eq!(
         place.bytes("s.nodes"),
         encode([4; 3], &[[1, 2, 3], [2, 2, 0]])
@@ -166,9 +175,9 @@ fn from_an_export_to_pictures() {
         assert!(picture.starts_with(begins));
         // From text, from a listing, into a file: the same.
         let of_text = place.run(&format!("{line} --box 4 4 4 s.csv"), b"");
-        assert_eq!(of_text.done(), picture);
+        assert!(of_text.done_with(heading) == picture);
         let of_list = place.run(&format!("{line} --listing - s.nodes"), list.as_bytes());
-        assert_eq!(of_list.done(), picture);
+        assert!(of_list.done() == picture);
         place.run(&format!("{line} s.nodes --output=p"), b"").done();
         assert_eq!(place.bytes("p"), picture.as_bytes());
     }
@@ -197,13 +206,12 @@ fn files_that_are_refused() {
     place.put("box", encode([4, 0, 4], &[]));
     place.put("empty", "");
     place.put("list", "box 4 4 4 points 8 cells 6\n");
-    place.put(
-        "wide",
-        "\u{feff}4 4 4"
-            .encode_utf16()
-            .flat_map(u16::to_le_bytes)
-            .collect::<Vec<u8>>(),
-    );
+    let wide = |text: &str| Vec::from_iter(text.encode_utf16().flat_map(u16::to_le_bytes));
+    place.put("wide", wide("\u{feff}x;ÿ;ж\n4;4;4"));
+    place.put("wider", wide("x;y;z\n4;4;4"));
+    place.put("zipped", b"PK\x03\x04\0\0and more than twenty bytes");
+    // Begins as UTF-16 does.
+    place.put("marked", encode([0, 4, 4], &[[0xfeff, 0, 0]]));
     let cases = [
         ("short", "refused 9 (trailer): it has 19 bytes, and a trailer has 20"),
         ("cut", "refused 9 (trailer): its count is 1 and its distance 12, and 11 bytes stand before the trailer: is it whole?"),
@@ -213,7 +221,10 @@ fn files_that_are_refused() {
         ("none", "No such file or directory (os error 2)"),
         (".", "Is a directory (os error 21)"),
         ("list", "a listing, which has no coordinates; name its node file (and by --listing the listing)"),
-        ("wide", "text in UTF-16: save it as CSV or text in UTF-8"),
+        ("wide", "refused 9 (trailer): it is text in UTF-16: save it as CSV or text in UTF-8"),
+        ("wider", "refused 9 (trailer): it is text in UTF-16: save it as CSV or text in UTF-8"),
+        ("zipped", "refused 9 (trailer): it is a spreadsheet file or an archive: export the nodes as CSV"),
+        ("marked", "refused 2 (box): its box is 0 4 4; a side is 0 or above 131,072"),
     ];
     for (name, why) in cases {
         let said = format!("gantry: {name}: {why}\n");
@@ -221,13 +232,16 @@ fn files_that_are_refused() {
         place
             .run(&format!("svg {name} -o p"), b"")
             .refused(1, &said);
-        // A listing says of a refused node file that it is refused.
+        // A listing says of a refused node file that it is refused, but not in place of another one.
         let list = place.run(&format!("list {name}"), b"");
         let listed = why
             .strip_prefix("refused ")
             .map(|why| format!("refused {}\n", &why[..1]));
-        assert_eq!((list.status, list.said), (Some(1), said));
+        assert_eq!((list.status, &list.said), (Some(1), &said));
         assert_eq!(list.output, listed.unwrap_or_default().as_bytes());
+        place
+            .run(&format!("list {name} -o p"), b"")
+            .refused(1, &said);
     }
     assert!(!place.names().contains(&"p".to_string()));
     let text = place.run("nodes -", b"4 4 4\n1 2.5 3\n9 9 9\n");
@@ -236,7 +250,7 @@ fn files_that_are_refused() {
         "gantry: standard input: line 2: '2.5' is not a whole number: scale to whole steps
 gantry: standard input: line 3: 9 9 9 is outside the box 4 4 4 of line 1
 gantry: standard input: numbers are written without decimals and without separators of thousands
-gantry: standard input: the box was taken from line 1; if that is a node, give the box by --box X Y Z
+gantry: standard input: line 1 was taken as the box; if it is a node, give the box by --box X Y Z
 ",
     );
     place.put("a.nodes", &whole);
@@ -244,8 +258,8 @@ gantry: standard input: the box was taken from line 1; if that is a node, give t
     place.run("text --box 4 4 5 a.nodes", b"").refused(1, said);
     let said = "gantry: a.nodes: a node file, and --leave-out is for text; see gantry text\n";
     place.run("text --leave-out a.nodes", b"").refused(1, said);
-    let long = vec![b' '; (1 << 24) + 1];
-    let said = "gantry: standard input: too long: at most 16,777,216 bytes\n";
+    let long = vec![b' '; (1 << 22) + 1];
+    let said = "gantry: standard input: too long: at most 4,194,304 bytes\n";
     place.run("text -", &long).refused(1, said);
 }
 
@@ -310,7 +324,7 @@ fn cells_full_names_the_line() {
     let node = text.lines().nth(line - 1).unwrap().replace(',', " ");
     assert!(why.starts_with(&format!("{node} did not go in: refused 8 (cells full): ")));
     assert!(why.ends_with(&format!(
-        " cells and the new ones exceed 4,096; {at} nodes went in\n"
+        " cells and the new ones exceed 4,096; {at} nodes went in: use fewer, or divide the box\n"
     )));
     assert_eq!((ran.status, ran.output.len()), (Some(1), 0));
 }
@@ -453,19 +467,33 @@ fn output_is_whole_or_lost() {
     assert_eq!(place.bytes("old"), b"as it was");
     place.run("text a -o old", b"").done();
     assert_eq!(place.bytes("old"), b"4 4 4\n1 2 3\n");
-    // Through a link, which stays one; onto its own input; to standard output by name.
-    std::os::unix::fs::symlink("old", place.0.join("link")).expect("a link");
+    // Through links, which stay; onto its own input; to standard output by name.
+    for (to, link) in [
+        ("old", "link"),
+        ("new", "ahead"),
+        ("/proc/self/fd/1", "out"),
+    ] {
+        std::os::unix::fs::symlink(to, place.0.join(link)).expect("a link");
+    }
     place.run("list a -o link", b"").done();
     assert!(fs::symlink_metadata(place.0.join("link"))
         .unwrap()
         .is_symlink());
     assert!(place.bytes("old").starts_with(b"box 4 4 4 "));
+    place.run("text a -o ahead", b"").done();
+    assert_eq!(place.bytes("new"), b"4 4 4\n1 2 3\n");
+    assert_eq!(place.run("text a -o out", b"").done(), "4 4 4\n1 2 3\n");
+    for link in ["ahead", "out"] {
+        assert!(fs::symlink_metadata(place.0.join(link))
+            .unwrap()
+            .is_symlink());
+    }
     place.run("text a -o a", b"").done();
     assert_eq!(place.run("text a -o -", b"").done(), "4 4 4\n1 2 3\n");
     // A device is written to, not replaced.
     place.run("text a -o /dev/null", b"").done();
     assert!(!Path::new("/dev/null").is_file());
-    assert_eq!(place.names(), ["a", "link", "old"]);
+    assert_eq!(place.names(), ["a", "ahead", "link", "new", "old", "out"]);
     let lost = [
         (
             "/dev/full",
@@ -492,7 +520,7 @@ fn output_is_whole_or_lost() {
         ran.stderr,
         b"gantry: standard output: No space left on device (os error 28)\n"
     );
-    assert_eq!(place.names(), ["a", "link", "old"]);
+    assert_eq!(place.names(), ["a", "ahead", "link", "new", "old", "out"]);
 }
 
 #[test]

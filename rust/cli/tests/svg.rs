@@ -22,8 +22,8 @@ fn every_edge_point_and_number_is_drawn() {
     // Twelve edges of the box, six diagonals and one through the middle, each with its border.
     let expected = [2 * 19, 8, 8 + 6 + WORDS];
     assert_eq!(counts(&picture([4; 3], &[])), expected);
-    // The node takes the middle one's place, and is joined to all corners.
-    let expected = [2 * 26, 9, 9 + 12 + WORDS];
+    // The node takes the middle one's place, and is joined to all corners; its number is joined to it.
+    let expected = [2 * 26 + 1, 9, 9 + 12 + WORDS];
     assert_eq!(counts(&picture([4; 3], &[[1, 2, 3]])), expected);
 }
 
@@ -38,9 +38,30 @@ fn many_cells_have_no_numbers() {
 #[test]
 fn the_picture_has_its_place_on_the_page() {
     let text = picture([131_072, 1, 500], &[]);
-    assert!(text.starts_with("<svg xmlns=\"http://www.w3.org/2000/svg\" width=\"500\""));
     assert!(text.ends_with("</g>\n</svg>\n"));
     assert!(!text.contains("NaN") && !text.contains("inf"));
+    // The caption has its room beside a tall box.
+    let text = picture([1, 1, 131_072], &[]);
+    let width = text
+        .split_once("width=\"")
+        .unwrap()
+        .1
+        .split_once('"')
+        .unwrap()
+        .0;
+    let longest = "blue: box corners, brown: nodes, green: cells; short sides are drawn longer";
+    assert!(width.parse::<usize>().unwrap() > 6 * longest.len());
+}
+
+#[test]
+fn labels_without_a_place_are_counted() {
+    let nodes: Vec<Position> = (0..56)
+        .map(|k| [k % 4, k / 4 % 4, k / 16].map(|n| n + 1))
+        .collect();
+    let text = picture([131_072; 3], &nodes);
+    let drawn = counts(&text)[2] - WORDS - 1;
+    let left_out = format!(">{} labels left out for want of room</text>", 64 - drawn);
+    assert!(drawn < 64 && text.contains(&left_out));
 }
 
 #[test]

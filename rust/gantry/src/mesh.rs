@@ -5,8 +5,6 @@ use std::fmt;
 use crate::refusal::accepted;
 use crate::{raw, Position, Refusal, Stopped, CELL_LIMIT, POINT_LIMIT};
 
-const NO_NEIGHBOUR: u16 = 65_535;
-
 /// How many points and cells a mesh has room for; more than 1,024 and 4,096 count as these.
 ///
 /// An insertion needs room for the old cells and the new ones together, before the old ones that it replaces are dropped.
@@ -192,7 +190,7 @@ impl Mesh {
     /// assert_eq!(mesh.insert_list(&[[1, 2, 3], [2, 2, 0]]), Ok(2));
     /// let stopped = mesh.insert_list(&[[2, 2, 2], [1, 2, 3], [3, 3, 3]]).unwrap_err();
     /// assert_eq!(stopped, Stopped { place: 1, refusal: Refusal::Taken });
-    /// assert_eq!(stopped.to_string(), "stopped at node 1: refused 5 (taken): a point is already there");
+    /// assert_eq!(stopped.to_string(), "stopped at place 1: refused 5 (taken): a point is already there");
     /// assert_eq!(mesh.points().len(), 11);
     /// # Ok::<(), Refusal>(())
     /// ```
@@ -313,7 +311,7 @@ impl Mesh {
         let neighbours: [u16; 4] = self.neighbours.as_chunks().0[number];
         Cell {
             corners: corners.map(usize::from),
-            neighbours: neighbours.map(|u| (u != NO_NEIGHBOUR).then_some(usize::from(u))),
+            neighbours: neighbours.map(|u| (u != raw::NO_NEIGHBOUR).then_some(usize::from(u))),
         }
     }
 

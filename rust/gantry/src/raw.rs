@@ -22,6 +22,9 @@
 
 use crate::Position;
 
+/// `GANTRY_NONE`: no neighbour.
+pub const NO_NEIGHBOUR: u16 = 65_535;
+
 /// `gantry_mesh`: the record of sides and counts.
 #[repr(C)]
 #[derive(Clone, Copy, Debug, Default, PartialEq, Eq)]
@@ -250,7 +253,8 @@ pub fn insert_answers(
     call!(gantry_insert_answers(mesh; tables; answers.as_ptr(), answers.len(), x, y, z))
 }
 
-/// `gantry_insert_list`: nodes, three numbers each, up to the first that is refused. Refusals 1 to 8.
+/// `gantry_insert_list`: nodes, three numbers each, up to the first that is refused; one or two numbers after the last whole
+/// node are not read. Refusals 1 to 8.
 pub fn insert_list(mesh: Record, tables: &mut Tables, nodes: &[u32]) -> Listed {
     call!(gantry_insert_list(mesh; tables; nodes.as_ptr(), nodes.len()))
 }

@@ -90,7 +90,7 @@ pub struct Stopped {
 
 impl fmt::Display for Stopped {
     fn fmt(&self, f: &mut fmt::Formatter) -> fmt::Result {
-        write!(f, "stopped at node {}: {}", self.place, self.refusal)
+        write!(f, "stopped at place {}: {}", self.place, self.refusal)
     }
 }
 

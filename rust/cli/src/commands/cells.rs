@@ -11,21 +11,21 @@ use crate::input::Source;
 use crate::listing;
 use crate::survey::{Built, Survey};
 use crate::words::Words;
-use crate::{because, grouped, Done, Failure};
+use crate::{because, counted, grouped, Done, Failure};
 
 pub fn list(words: &Words) -> Result<Done, Failure> {
     let survey = match survey(words) {
         Err(Failure::Input {
             messages,
             refusal: Some(refusal),
-        }) => return Ok(refused_list(refusal, messages)),
+        }) => return refused_list(refusal, messages, words),
         survey => survey?,
     };
     if let Some(length) = survey.length.filter(|&length| length > listing::FILE_LIMIT) {
         let [length, limit] = [length, listing::FILE_LIMIT].map(grouped);
         let why = format!("it has {length} bytes, and a listing takes at most {limit}");
         let message = format!("{}: {}", survey.name, because(Refusal::Trailer, &why));
-        return Ok(refused_list(Refusal::Trailer, vec![message]));
+        return refused_list(Refusal::Trailer, vec![message], words);
     }
     let built = survey.build()?;
     let text = listing::text(&Grid::from(&built.mesh), built.stopped);
@@ -36,10 +36,17 @@ pub fn list(words: &Words) -> Result<Done, Failure> {
     })
 }
 
-fn refused_list(refusal: Refusal, complaints: Vec<String>) -> Done {
-    Done {
-        complaints,
-        ..Done::of(listing::refused(refusal))
+/// On standard output; a file that was named is left as it was.
+fn refused_list(refusal: Refusal, messages: Vec<String>, words: &Words) -> Result<Done, Failure> {
+    match &words.output {
+        Some(name) if name != "-" => Err(Failure::Input {
+            messages,
+            refusal: Some(refusal),
+        }),
+        _ => Ok(Done {
+            complaints: messages,
+            ..Done::of(listing::refused(refusal))
+        }),
     }
 }
 
@@ -151,8 +158,8 @@ pub fn check(words: &Words) -> Result<Done, Failure> {
     let mut text = format!("{name}: {}\n", shown.grid.summary());
     let (inserted, nodes) = (shown.grid.points.len() - 8, shown.survey.nodes.len());
     let all = match inserted == nodes {
-        true => Ok(format!("{nodes} nodes")),
-        false => Err(format!("{inserted} of {nodes} nodes")),
+        true => Ok(counted(nodes, "node")),
+        false => Err(format!("{inserted} of {}", counted(nodes, "node"))),
     };
     text += &says("every node went in", &all);
     for (words, outcome) in conditions(&shown.grid) {

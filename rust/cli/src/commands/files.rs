@@ -19,9 +19,10 @@ pub fn nodes(words: &Words) -> Result<Done, Failure> {
     }
     let file = built.mesh.write_nodes();
     let output = file.map_err(|refusal| Failure::input(format!("{}: {refusal}", survey.name)))?;
+    let summary = survey.summary();
     Ok(Done {
         output,
-        notes: survey.notes,
+        notes: survey.notes.into_iter().chain([summary]).collect(),
         complaints: Vec::new(),
     })
 }

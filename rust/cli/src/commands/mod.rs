@@ -10,7 +10,7 @@ use std::fmt::Write;
 use crate::survey::Survey;
 use crate::text::Reading;
 use crate::words::{Choice, Words};
-use crate::{Done, Failure};
+use crate::{printable, Done, Failure};
 
 struct Command {
     name: &'static str,
@@ -135,19 +135,25 @@ pub fn perform(line: &[OsString]) -> Result<(Done, Option<OsString>), Failure> {
         (Some("--version" | "-V"), []) => format!("gantry {}\n", env!("CARGO_PKG_VERSION")),
         (Some("help"), [name]) => named(name)?.help(),
         (Some("--help" | "-h" | "help" | "--version" | "-V"), _) => {
-            let message = format!("too many words after {}", first.display());
+            let message = format!("too many words after {}", printable(first));
             return Err(Failure::Usage(message));
         }
-        _ if rest.iter().any(|word| word == "--help" || word == "-h") => named(first)?.help(),
+        _ if asks_for_help(rest) => named(first)?.help(),
         _ => return named(first)?.perform(rest),
     };
     Ok((Done::of(text), None))
 }
 
+/// Before a word `--`, which ends the options.
+fn asks_for_help(words: &[OsString]) -> bool {
+    let mut options = words.iter().take_while(|&word| word != "--");
+    options.any(|word| word == "--help" || word == "-h")
+}
+
 fn named(word: &OsString) -> Result<&'static Command, Failure> {
     let command = COMMANDS.iter().find(|command| word == command.name);
     command.ok_or_else(|| {
-        let word = word.display();
+        let word = printable(word);
         Failure::Usage(format!("unknown command {word}; see gantry --help"))
     })
 }
@@ -200,7 +206,7 @@ fn survey(words: &Words) -> Result<Survey, Failure> {
         [file] => read_survey(file, words),
         [] => Err(Failure::Usage("no FILE".to_string())),
         [_, more, ..] => {
-            let more = more.display();
+            let more = printable(more);
             Err(Failure::Usage(format!("{more}: only one FILE is taken")))
         }
     }

@@ -7,15 +7,15 @@ use gantry::{sphere_test, volume6, Position, Refusal, SphereAnswer, SIDE_LIMIT};
 use super::read_survey;
 use crate::grid::Grid;
 use crate::words::{numbers, Words};
-use crate::{because, grouped, spaced, Done, Failure};
+use crate::{because, counted, grouped, spaced, Done, Failure};
 
 pub fn locate(words: &Words) -> Result<Done, Failure> {
     let Some((file, coordinates)) = words.plain.split_first() else {
         return Err(Failure::Usage("no FILE".to_string()));
     };
     if coordinates.is_empty() || coordinates.len() % 3 != 0 {
-        let count = coordinates.len();
-        let message = format!("{count} numbers after FILE, and a position has three, x y z");
+        let count = counted(coordinates.len(), "word");
+        let message = format!("{count} after FILE, and a position has three, x y z");
         return Err(Failure::Usage(message));
     }
     let positions = coordinates.chunks_exact(3).map(numbers);
@@ -30,7 +30,11 @@ pub fn locate(words: &Words) -> Result<Done, Failure> {
             Ok((p, cell)) => text += &shares(&grid, p, cell),
             Err(refusal) => {
                 let [x, y, z] = numbers;
-                let why = because(refusal, &format!("the box is {}", spaced(grid.sides)));
+                let why = match refusal {
+                    Refusal::Outside => format!("the box is {}", spaced(grid.sides)),
+                    _ => refusal.when().to_string(),
+                };
+                let why = because(refusal, &why);
                 complaints.push(format!("position {x} {y} {z}: {why}"));
             }
         }
@@ -103,5 +107,6 @@ pub fn sphere(words: &Words) -> Result<Done, Failure> {
         SphereAnswer::Close(_) => "close",
     };
     let yes = if answer.is_yes() { "yes" } else { "no" };
-    Ok(Done::of(format!("{name}, T = {}, {yes}\n", answer.t())))
+    // T is a whole number, and all of its digits are shown.
+    Ok(Done::of(format!("{name}, T = {:.0}, {yes}\n", answer.t())))
 }
