@@ -3,9 +3,10 @@
 use std::error::Error;
 use std::fmt;
 
-/// One table of the refusals: case, number, name, and when a call answers it, in the manual's and the header's words.
+/// One table of the refusals: case, number, name, when a call answers it, in the manual's and the header's words, and what
+/// Rust programs should know beyond that.
 macro_rules! refusals {
-    ($($case:ident = $number:literal, $name:literal, $when:literal;)*) => {
+    ($($case:ident = $number:literal, $name:literal, $when:literal $(, $more:literal)?;)*) => {
         /// Why a call was refused. A refusal changes nothing but the work area; a list that stops at a refused node keeps the
         /// nodes before it. `docs/MANUAL.md` says of each one what to do.
         ///
@@ -20,7 +21,7 @@ macro_rules! refusals {
         #[repr(u8)]
         #[derive(Clone, Copy, Debug, PartialEq, Eq, Hash)]
         pub enum Refusal {
-            $(#[doc = $when] $case = $number,)*
+            $(#[doc = concat!($when, $("\n\n", $more)?)] $case = $number,)*
         }
 
         impl Refusal {
@@ -47,11 +48,13 @@ macro_rules! refusals {
 refusals! {
     Short = 1, "short", "room for fewer than 8 points or 6 cells, or fewer answer bytes than cells";
     Box = 2, "box", "a side is 0 or above 131,072";
-    NoMesh = 3, "no mesh", "record and tables fail the mesh check";
+    NoMesh = 3, "no mesh", "record and tables fail the mesh check",
+        "The tables of a [`Mesh`](crate::Mesh) never do.";
     Outside = 4, "outside", "a position outside the box; in the sphere test, a coordinate above 131,072";
     Taken = 5, "taken", "a point is already there";
     PointsFull = 6, "points full", "there is no room for a further point";
-    Unheld = 7, "unheld", "no cell holds the position";
+    Unheld = 7, "unheld", "no cell holds the position",
+        "No mesh is known in which this occurs; that there is none is not proved.";
     CellsFull = 8, "cells full", "the old cells and the new ones together exceed the room for cells";
     Trailer = 9, "trailer", "a file under 20 bytes, or a wrong count or distance in its trailer";
     NoPlace = 10, "no place", "the output is shorter than what is to be written";
