@@ -83,18 +83,22 @@ pub fn is_like_a_number(field: &str) -> bool {
     digits.starts_with(|c: char| c.is_ascii_digit())
 }
 
-/// May it stand in a heading? It has no digits but in brackets, and is not a spreadsheet's error as `#VALUE!`.
+/// May it stand in a heading? It has no digit, or a unit's in brackets after a word: `(500)` is how some spreadsheets write
+/// −500. A spreadsheet's error as `#VALUE!` is no heading either.
 pub fn is_of_heading(field: &str) -> bool {
     let mut depth = 0_usize;
-    let has_digit = field.chars().any(|c| {
+    let outside = field.chars().filter(|c| {
         match c {
             '[' | '(' => depth += 1,
             ']' | ')' => depth = depth.saturating_sub(1),
             _ => {}
         }
-        depth == 0 && c.is_numeric()
+        depth == 0
     });
-    !has_digit && !field.starts_with('#')
+    let outside: String = outside.collect();
+    let has_digit = |text: &str| text.contains(char::is_numeric);
+    let has_unit = outside.contains(char::is_alphabetic) && !has_digit(&outside);
+    (has_unit || !has_digit(field)) && !field.starts_with('#')
 }
 
 /// The axes that a heading names by a letter of its own, in its order.

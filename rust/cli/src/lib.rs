@@ -1,5 +1,5 @@
-//! The command `gantry`. All that it says of a mesh comes from the proved archive: the cells, the mesh check, the located
-//! cell, the volumes, and the node files that are read and written.
+//! The command `gantry`. The cells, the mesh check, the located cell, the volumes and the node files that are read and
+//! written come from the proved archive; reading text and listings, explaining a check and drawing are this crate's own.
 
 pub mod check;
 pub mod commands;
@@ -17,7 +17,7 @@ pub mod words;
 
 use std::ffi::OsStr;
 
-use gantry::Refusal;
+use gantry::{Position, Refusal};
 
 /// What a command leaves: its output, and what it says on standard error.
 #[derive(Debug, Default)]
@@ -73,8 +73,19 @@ pub fn grouped(number: usize) -> String {
 }
 
 /// `x y z`
-pub fn spaced([x, y, z]: gantry::Position) -> String {
+pub fn spaced([x, y, z]: Position) -> String {
     format!("{x} {y} {z}")
+}
+
+/// Does a position lie outside the box of these sides?
+pub fn is_outside(sides: Position, p: Position) -> bool {
+    (0..3).any(|axis| p[axis] > sides[axis])
+}
+
+/// ` of line 7`, of a box that was read from there.
+fn of_line(line: Option<usize>) -> String {
+    line.map(|line| format!(" of line {line}"))
+        .unwrap_or_default()
 }
 
 /// A refusal by number and name, and why it was answered.

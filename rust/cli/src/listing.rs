@@ -6,7 +6,7 @@ use gantry::{Cell, Mesh, Position, Refusal, Stopped, CELL_LIMIT, POINT_LIMIT};
 
 use crate::grid::Grid;
 use crate::survey::Survey;
-use crate::{counted, grouped, shown, spaced};
+use crate::{counted, grouped, is_outside, shown, spaced};
 
 /// The listing program reads no more bytes of a node file.
 pub const FILE_LIMIT: usize = 65_536;
@@ -15,19 +15,12 @@ pub const FILE_LIMIT: usize = 65_536;
 pub fn text(grid: &Grid, stopped: Option<Stopped>) -> String {
     let (points, cells) = (grid.points.len(), grid.cells.len());
     let mut text = format!("box {} points {points} cells {cells}\n", spaced(grid.sides));
-    for (
-        number,
-        Cell {
-            corners,
-            neighbours,
-        },
-    ) in grid.cells.iter().enumerate()
-    {
+    for (number, cell) in grid.cells.iter().enumerate() {
         let _ = write!(text, "{number}");
-        for corner in corners {
+        for corner in cell.corners {
             let _ = write!(text, " {corner}");
         }
-        for neighbour in neighbours {
+        for neighbour in cell.neighbours {
             let _ = match neighbour {
                 Some(neighbour) => write!(text, " {neighbour}"),
                 None => write!(text, " -"),
@@ -111,10 +104,10 @@ fn read_head(line: &str, survey: &Survey) -> Result<Head, String> {
 /// The box corners, then the nodes.
 fn points_of(sides: Position, nodes: &[Position]) -> Option<Vec<Position>> {
     let [x, y, z] = sides;
-    let is_outside = |node: &Position| (0..3).any(|axis| node[axis] > sides[axis]);
+    let is_some_outside = nodes.iter().any(|&node| is_outside(sides, node));
     let corners = Mesh::start(x, y, z).ok()?.points().to_vec();
     let points = corners.into_iter().chain(nodes.iter().copied());
-    (!nodes.iter().any(is_outside)).then(|| points.collect())
+    (!is_some_outside).then(|| points.collect())
 }
 
 /// `box X Y Z points P cells C`

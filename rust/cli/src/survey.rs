@@ -6,7 +6,7 @@ use gantry::{Mesh, NodeFile, Position, Refusal, Stopped, CELL_LIMIT};
 
 use crate::input::{Kind, Source};
 use crate::text::{self, Reading};
-use crate::{because, counted, grouped, spaced, Failure};
+use crate::{because, counted, grouped, of_line, spaced, Failure};
 
 /// A box and its nodes, from a node file or from text.
 #[derive(Debug)]
@@ -85,8 +85,7 @@ impl Survey {
 
     /// In a line: the box, where it was taken from, and how many nodes there are.
     pub fn summary(&self) -> String {
-        let of_line = self.box_line.map(|line| format!(" of line {line}"));
-        let (name, sides, of_line) = (&self.name, spaced(self.sides), of_line.unwrap_or_default());
+        let (name, sides, of_line) = (&self.name, spaced(self.sides), of_line(self.box_line));
         let nodes = counted(self.nodes.len(), "node");
         format!("{name}: box {sides}{of_line}, {nodes}")
     }

@@ -9,7 +9,7 @@ use gantry::{Mesh, Position, NODE_LIMIT, SIDE_LIMIT};
 use crate::fields::{
     axes, is_like_a_number, is_of_heading, position, split, without_comment, Fault,
 };
-use crate::{grouped, shown, spaced};
+use crate::{grouped, is_outside, of_line, shown, spaced};
 
 /// How text is to be read.
 #[derive(Clone, Copy, Debug, Default)]
@@ -66,11 +66,6 @@ impl Frame {
             corners,
             line,
         })
-    }
-
-    fn of_line(&self) -> String {
-        let of = |line| format!(" of line {line}");
-        self.line.map(of).unwrap_or_default()
     }
 }
 
@@ -204,8 +199,8 @@ impl Reader {
     fn take_node(&mut self, line: usize, node: Position) {
         // Without a box there is nothing more to say of a node.
         let Some(frame) = &self.frame else { return };
-        let (place, of_line) = (spaced(node), frame.of_line());
-        if (0..3).any(|axis| node[axis] > frame.sides[axis]) {
+        let (place, of_line) = (spaced(node), of_line(frame.line));
+        if is_outside(frame.sides, node) {
             let sides = spaced(frame.sides);
             self.hints.extend(frame.line.map(Hint::Sides));
             let fault = format!("{place} is outside the box {sides}{of_line}");

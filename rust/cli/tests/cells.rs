@@ -155,6 +155,9 @@ fn each_condition_is_told() {
     grid.cells[2].neighbours[1] = Some(0);
     let other = "cell 2 face 1: cell 0 has no face with the same points";
     assert_eq!(failing(&grid), [other]);
+    grid.cells[2].neighbours = [None, Some(3), Some(0), None];
+    let back = "cell 1 face 1: cell 2 does not name it back";
+    assert_eq!(failing(&grid), [back]);
 
     let mut grid = started(&[]);
     grid.cells.pop();

@@ -210,8 +210,11 @@ fn files_that_are_refused() {
     place.put("wide", wide("\u{feff}x;ÿ;ж\n4;4;4"));
     place.put("wider", wide("x;y;z\n4;4;4"));
     place.put("zipped", b"PK\x03\x04\0\0and more than twenty bytes");
-    // Begins as UTF-16 does.
+    // These begin as UTF-16 does.
     place.put("marked", encode([0, 4, 4], &[[0xfeff, 0, 0]]));
+    let mut counted = encode([4; 3], &[[0xfeff, 0, 0]]);
+    counted[24] = 2;
+    place.put("counted", counted);
     let cases = [
         ("short", "refused 9 (trailer): it has 19 bytes, and a trailer has 20"),
         ("cut", "refused 9 (trailer): its count is 1 and its distance 12, and 11 bytes stand before the trailer: is it whole?"),
@@ -225,6 +228,7 @@ fn files_that_are_refused() {
         ("wider", "refused 9 (trailer): it is text in UTF-16: save it as CSV or text in UTF-8"),
         ("zipped", "refused 9 (trailer): it is a spreadsheet file or an archive: export the nodes as CSV"),
         ("marked", "refused 2 (box): its box is 0 4 4; a side is 0 or above 131,072"),
+        ("counted", "refused 9 (trailer): its count is 2 and its distance 12, and 12 × 2 is 24"),
     ];
     for (name, why) in cases {
         let said = format!("gantry: {name}: {why}\n");
@@ -521,6 +525,23 @@ fn output_is_whole_or_lost() {
         b"gantry: standard output: No space left on device (os error 28)\n"
     );
     assert_eq!(place.names(), ["a", "ahead", "link", "new", "old", "out"]);
+}
+
+#[test]
+fn a_write_that_fails_leaves_what_was_there() {
+    let place = Place::new("failed");
+    place.put("a", "4 4 4\n").put("old", "as it was");
+    // No file may grow, and a write beyond that is an error instead of a signal.
+    let limited = "ulimit -f 0; trap '' XFSZ; exec \"$0\" text a -o old";
+    let ran = Command::new("sh")
+        .args(["-c", limited, GANTRY])
+        .current_dir(&place.0)
+        .output()
+        .expect("it runs");
+    assert_eq!(ran.status.code(), Some(1));
+    assert_eq!(ran.stderr, b"gantry: old: File too large (os error 27)\n");
+    assert_eq!(place.bytes("old"), b"as it was");
+    assert_eq!(place.names(), ["a", "old"]);
 }
 
 #[test]

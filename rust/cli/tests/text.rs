@@ -124,7 +124,9 @@ fn no_node_is_taken_for_a_heading() {
         "Survey 12",
         "Err:502;400;300",
         "P1;500;400;300",
-        "(500);(400);(300) 1",
+        "(500);(400);(300)",
+        "[500];[400];[300]",
+        "x (500) 4 (1);y;z",
     ];
     for line in lines {
         let first = read(format!("{line}\n1;2;3\n").as_bytes(), reading).unwrap_err();
