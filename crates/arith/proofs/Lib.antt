@@ -1,8 +1,9 @@
--- Laws by subject: integers and their ring solver, orders, bounds, machine arithmetic, determinants; then tests, finite tables,
+-- Laws by subject: integers and their ring solver, orders, equations and signs that follow from given ones, bounds, machine arithmetic, determinants; then tests, finite tables,
 -- sums, counts, iterations that settle, and the pigeonhole.
 pub mod Integers
 pub mod Ring
 pub mod Order
+pub mod Combine
 pub mod Magnitude
 pub mod Machine
 pub mod Weighted
