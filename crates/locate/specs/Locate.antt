@@ -17,7 +17,7 @@ use Rattle.mesh.specs.Refusal.{meshRefusal}
 unfoldable pub holds : Tables → Position → ℕ → Bool
 holds t p c = allBelow 4 (λ k. leZ (pos 0) (side t p (4 * c + k)))
 
--- refusals 1 2 3 4 7
+-- refusals 1 2 3 4 7. 7 never occurs: `never-seven` (covering/proofs/NeverSeven).
 unfoldable pub locateRefusal : Mesh → Tables → ℕ → Position → ℕ
 locateRefusal m t w p =
     cond (not (eqb (meshRefusal m t w false) 0)) (meshRefusal m t w false)

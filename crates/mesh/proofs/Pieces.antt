@@ -1,17 +1,12 @@
--- By computation: document 01's pieces of a start, and two tables that are no mesh for one reason each.
+-- By computation: document 01's pieces of a start.
 use Prim.Native.Nat.{ℕ, _+_, _*_}
-use mathlib.Core.Bool.{Bool, true, false, _&&_, cond}
-use mathlib.Core.List.{List, _∷_, _++_, map, []}
+use mathlib.Core.List.{List, _∷_, []}
 use mathlib.Core.Path.{_≡_, refl}
-use lib.Dec.{ltb, eqb}
-use lib.IntN.{pos}
 use lib.ListN.{replicate}
-use Rattle.arith.specs.Table.{fill, tabulate, allBelow, anyBelow, sum}
-use Rattle.geometry.specs.Volume.{volume6, volume}
+use Rattle.arith.specs.Table.{fill, tabulate}
 use Rattle.mesh.specs.declared.Started.the-variants.{Accepted, Refused}
-use Rattle.mesh.specs.Tables.{Tables, pointCapacity, cellCapacity, none, cellOf, pointIn, corner, across, cornerAt, cellVolume, side, faceHas, sameFace, tables}
-use Rattle.mesh.specs.Check.{sameZ, countsOk, boxOk, usedOk, pointsOk, cellOk, wallOk, someWall, matedOk, faceOk, meshCheck}
-use Rattle.mesh.specs.Start.{startPoints, startCorners, startNeighbours, started, startedMesh, short, startRefusal, startAnswer}
+use Rattle.mesh.specs.Tables.{Tables, pointCapacity, cellCapacity, none, corner, across, tables}
+use Rattle.mesh.specs.Start.{startCorners, startNeighbours, started, startedMesh, short, startRefusal, startAnswer}
 
 -- ---- sides
 
@@ -42,40 +37,3 @@ six-lines : tabulate 6 (line (started 4 4 4 blank)) ≡
     (5 ∷ 0 ∷ 5 ∷ 1 ∷ 7 ∷ none ∷ 0 ∷ 4 ∷ none ∷ []) ∷ []
 unfolding tabulate fill corner across started startCorners startNeighbours
 six-lines = refl
-
--- ---- no mesh for one reason
-
--- all of the check but the faces and the sum
-abbrev rest : ℕ → ℕ → Tables → Bool
-rest np n t = countsOk 4 4 4 1024 4096 np n && (boxOk 4 4 4 t && (pointsOk 4 4 4 np n t && allBelow n (cellOk t np)))
-
-abbrev sumOk : ℕ → Tables → Bool
-sumOk n t = sameZ (sum n (cellVolume t)) (pos 384)
-
--- the faces, with the far side left out
-abbrev folded : ℕ → Tables → ℕ → Bool
-folded n t f =
-    cond (eqb (across t f) none) (someWall 4 4 4 t f)
-    (ltb (across t f) n && anyBelow 4 (λ k. sameFace t f (4 * across t f + k) && eqb (across t (4 * across t f + k)) (cellOf f)))
-
--- cells 0, 2 and 4 of the started box, each twice, each the neighbour of its twin on all four faces
-twinned : Tables
-twinned =
-    tables (startPoints 4 4 4)
-    (0 ∷ 1 ∷ 3 ∷ 7 ∷ 0 ∷ 1 ∷ 3 ∷ 7 ∷ 0 ∷ 2 ∷ 6 ∷ 7 ∷ 0 ∷ 2 ∷ 6 ∷ 7 ∷ 0 ∷ 4 ∷ 5 ∷ 7 ∷ 0 ∷ 4 ∷ 5 ∷ 7 ∷ [])
-    (1 ∷ 1 ∷ 1 ∷ 1 ∷ 0 ∷ 0 ∷ 0 ∷ 0 ∷ 3 ∷ 3 ∷ 3 ∷ 3 ∷ 2 ∷ 2 ∷ 2 ∷ 2 ∷ 5 ∷ 5 ∷ 5 ∷ 5 ∷ 4 ∷ 4 ∷ 4 ∷ 4 ∷ [])
-
-twinned-folds : (rest 8 6 twinned ≡ true) × (sumOk 6 twinned ≡ true) × (allBelow 24 (folded 6 twinned) ≡ true) × (meshCheck 4 4 4 1024 4096 8 6 twinned ≡ false)
-unfolding countsOk boxOk usedOk pointsOk cellOk wallOk someWall matedOk faceOk meshCheck twinned startPoints pointIn corner across cornerAt cellVolume side faceHas sameFace volume volume6 sum allBelow anyBelow
-twinned-folds = (refl, refl, refl, refl)
-
--- two whole boxes on doubled points
-doubled : Tables
-doubled =
-    tables (startPoints 4 4 4 ++ startPoints 4 4 4)
-    (startCorners ++ map (λ v. v + 8) startCorners)
-    (startNeighbours ++ map (λ u. cond (eqb u none) none (u + 6)) startNeighbours)
-
-doubled-adds : (rest 16 12 doubled ≡ true) × (allBelow 48 (faceOk 4 4 4 doubled 12) ≡ true) × (sumOk 12 doubled ≡ false) × (meshCheck 4 4 4 1024 4096 16 12 doubled ≡ false)
-unfolding countsOk boxOk usedOk pointsOk cellOk wallOk someWall matedOk faceOk meshCheck doubled startPoints startCorners startNeighbours pointIn corner across cornerAt cellVolume side faceHas sameFace volume volume6 sum allBelow anyBelow
-doubled-adds = (refl, refl, refl, refl)

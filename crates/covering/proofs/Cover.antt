@@ -1,0 +1,167 @@
+-- Nowhere uncovered: every place of the box is held by a cell; and the straight walk from any cell leads to one.
+use Prim.Native.Nat.{ℕ, _+_, _*_, _/_, _%_, _<_}
+use mathlib.Core.Logic.{_≢_}
+use mathlib.Core.Path.{_≡_, refl, sym, ap, ap₂, _∙_, subst}
+use mathlib.Core.List.{[], _∷_}
+use native.Mathlib.Omega.{arith}
+use native.Mathlib.Decide.{ℕ-discrete}
+use lib.IntN.{ℤ, pos, _+ℤ_, _-ℤ_, _*ℤ_, zero-*ℤ, +ℤ-idr}
+use lib.Signed.{_<ℤ_, _≤ℤ_}
+use Rattle.arith.specs.Table.{sum}
+use Rattle.arith.proofs.Order.{arithℤ, <→≤, ≡→≤, cancel-zero}
+use Rattle.arith.proofs.Ring.{var, con, _⊕_, _⊗_, ring}
+use Rattle.arith.proofs.Combine.{nonneg, times, term, done}
+use Rattle.arith.proofs.Sums.{sum-pos}
+use Rattle.geometry.specs.Volume.{replaced}
+use Rattle.geometry.proofs.Places.{replaced-same, replaced-other}
+use Rattle.geometry.proofs.Algebra.{volume-id, volume-zero}
+use Rattle.mesh.specs.Tables.{Tables, cornerAt, cellVolume}
+use Rattle.mesh.specs.Mesh.{IsMesh}
+use Rattle.mesh.proofs.Room.{Room}
+use Rattle.mesh.proofs.Held.{side-at}
+use Rattle.covering.specs.Place.{Place, InBoxAt, Chain, here, step}
+use Rattle.covering.proofs.Linear.{placed, form, HoldsForm, InsideForm, mix, form-mix, form-whole}
+use Rattle.covering.proofs.Avoid.{Avoids, avoid}
+use Rattle.covering.proofs.Walk.{cut, cut-mix, Generic, Walks, walk-from}
+
+-- ---- a cell's own corners
+
+module _ (t : Tables) (c : ℕ) where
+  pub form-own : (i : ℕ) → i < 4 → form t (placed t c i) (4 * c + i) ≡ cellVolume t c
+  unfolding cellVolume
+  form-own i h = form-whole t (cornerAt t c i) (4 * c + i) ∙ (side-at t (cornerAt t c i) c i h ∙ volume-id (cornerAt t c) i (cornerAt t c i) refl)
+
+  pub form-off : (i j : ℕ) → i < 4 → j < 4 → i ≢ j → form t (placed t c i) (4 * c + j) ≡ pos 0
+  form-off i j hi hj d =
+      form-whole t (cornerAt t c i) (4 * c + j) ∙ (side-at t (cornerAt t c i) c j hj ∙
+      volume-zero (replaced (cornerAt t c) j (cornerAt t c i)) i j hi hj d
+      (replaced-other (cornerAt t c) j (cornerAt t c i) i d ∙ sym (replaced-same (cornerAt t c) j (cornerAt t c i))))
+
+  cut-own : (q : Place) (i j : ℕ) → i < 4 → j < 4 → i ≢ j → cut t q c i j (placed t c i) ≡ cellVolume t c *ℤ form t q (4 * c + j)
+  cut-own q i j hi hj d =
+      ap₂ (λ u v. u *ℤ form t q (4 * c + j) -ℤ v *ℤ form t q (4 * c + i)) (form-own i hi) (form-off i j hi hj d) ∙
+      (ap (λ u. cellVolume t c *ℤ form t q (4 * c + j) -ℤ u) (zero-*ℤ (form t q (4 * c + i))) ∙ +ℤ-idr (cellVolume t c *ℤ form t q (4 * c + j)))
+
+-- ---- a good start near a given place
+
+pub record Start (t : Tables) (n : ℕ) (q x₀ x : Place) : Type 0 where
+  pub generic : Generic t n q x
+  pub near : (c : ℕ) → c < n → InsideForm t x₀ c → InsideForm t x c
+  pub below : (f : ℕ) → f < 4 * n → form t x₀ f <ℤ pos 0 → form t x f <ℤ pos 0
+
+module _ {X Y Z pc cc np n : ℕ} {t : Tables} (M : IsMesh X Y Z pc cc np n t) (q : Place) where
+  abbrev plane : ℕ → Place → ℤ
+  plane κ = cut t q (κ / 16) (κ / 4 % 4) (κ % 4)
+
+  abbrev tip : ℕ → Place
+  tip κ = placed t (κ / 16) (κ / 4 % 4)
+
+  pub start : (x₀ : Place) → (x : Place) × Start t n q x₀ x
+  start x₀ =
+      go (avoid (4 * n) (λ f x. form t x f) (λ f m p k r. form-mix t m p k r f) plane (λ κ. cut-mix t q (κ / 16) (κ / 4 % 4) (κ % 4)) tip (16 * n) x₀)
+    where
+      go : (x : Place) × Avoids (4 * n) (λ f x. form t x f) (λ f m p k r. form-mix t m p k r f) plane (λ κ. cut-mix t q (κ / 16) (κ / 4 % 4) (κ % 4)) tip (16 * n) x₀ x →
+          (x : Place) × Start t n q x₀ x
+      go (x, A) = (x, record { generic = gen; near = λ c l i k h. A .keeps (4 * c + k) (omega arith) (i k h); below = A .keeps-below })
+        where
+          gen : Generic t n q x
+          gen c i j l hi hj d z e =
+              A .off κ (omega arith)
+              (λ u. z (cancel-zero {a = cellVolume t c} (form t q (4 * c + j)) (M .positive c l) (sym (cut-own t c q i j hi hj d) ∙ (sym (at (placed t c i)) ∙ (ap (λ y. plane κ y) (sym tip-is) ∙ u)))))
+              (at x ∙ e)
+            where
+              κ : ℕ
+              κ = 16 * c + 4 * i + j
+
+              κc : κ / 16 ≡ c
+              κc = omega arith
+
+              κi : κ / 4 % 4 ≡ i
+              κi = omega arith
+
+              κj : κ % 4 ≡ j
+              κj = omega arith
+
+              at : (y : Place) → plane κ y ≡ cut t q c i j y
+              at y = λ ι. cut t q (κc ι) (κi ι) (κj ι) y
+
+              tip-is : tip κ ≡ placed t c i
+              tip-is = λ ι. placed t (κc ι) (κi ι)
+
+-- ---- the middle of a cell
+
+abbrev pub middle : Tables → ℕ → Place
+middle t c = mix 1 (mix 1 (placed t c 0) 1 (placed t c 1)) 1 (mix 1 (placed t c 2) 1 (placed t c 3))
+
+four-pos : (u : ℕ → ℤ) → ((i : ℕ) → i < 4 → pos 0 ≤ℤ u i) → (k : ℕ) → k < 4 → pos 0 <ℤ u k →
+    pos 0 <ℤ (pos 1 *ℤ (pos 1 *ℤ u 0 +ℤ pos 1 *ℤ u 1) +ℤ pos 1 *ℤ (pos 1 *ℤ u 2 +ℤ pos 1 *ℤ u 3))
+unfolding sum
+four-pos u all k h l =
+    subst (λ z. pos 0 <ℤ z)
+    (ring (con (pos 0) ⊕ var 0 ⊕ var 1 ⊕ var 2 ⊕ var 3) (con (pos 1) ⊗ (con (pos 1) ⊗ var 0 ⊕ con (pos 1) ⊗ var 1) ⊕ con (pos 1) ⊗ (con (pos 1) ⊗ var 2 ⊕ con (pos 1) ⊗ var 3)) tt (u 0 ∷ u 1 ∷ u 2 ∷ u 3 ∷ []))
+    (sum-pos 4 u all k h l)
+
+middle-side : (t : Tables) (c f : ℕ) → form t (middle t c) f ≡
+    pos 1 *ℤ (pos 1 *ℤ form t (placed t c 0) f +ℤ pos 1 *ℤ form t (placed t c 1) f) +ℤ pos 1 *ℤ (pos 1 *ℤ form t (placed t c 2) f +ℤ pos 1 *ℤ form t (placed t c 3) f)
+middle-side t c f =
+    form-mix t 1 (mix 1 (placed t c 0) 1 (placed t c 1)) 1 (mix 1 (placed t c 2) 1 (placed t c 3)) f ∙
+    ap₂ (λ u v. pos 1 *ℤ u +ℤ pos 1 *ℤ v) (form-mix t 1 (placed t c 0) 1 (placed t c 1) f) (form-mix t 1 (placed t c 2) 1 (placed t c 3) f)
+
+-- what is not negative at the four corners is not negative in the middle
+pub middle-nonneg : (t : Tables) (c f : ℕ) → ((i : ℕ) → i < 4 → pos 0 ≤ℤ form t (placed t c i) f) → pos 0 ≤ℤ form t (middle t c) f
+middle-nonneg t c f all =
+    subst (λ z. pos 0 ≤ℤ z) (sym (middle-side t c f))
+    (nonneg
+    (con (pos 1) ⊗ (con (pos 1) ⊗ var 0 ⊕ con (pos 1) ⊗ var 1) ⊕ con (pos 1) ⊗ (con (pos 1) ⊗ var 2 ⊕ con (pos 1) ⊗ var 3))
+    (times (con (pos 1)) (var 0) ∷ times (con (pos 1)) (var 1) ∷ times (con (pos 1)) (var 2) ∷ times (con (pos 1)) (var 3) ∷ []) tt
+    (form t (placed t c 0) f ∷ form t (placed t c 1) f ∷ form t (placed t c 2) f ∷ form t (placed t c 3) f ∷ [])
+    (term one (all 0 (omega arith)) (term one (all 1 (omega arith)) (term one (all 2 (omega arith)) (term one (all 3 (omega arith)) done)))))
+  where
+    one : pos 0 ≤ℤ pos 1
+    one = omega arithℤ
+
+pub chain-map : {t : Tables} {n : ℕ} {P Q : ℕ → ℕ → Type 0} → ((c k : ℕ) → P c k → Q c k) → {c d : ℕ} → Chain t n P c d → Chain t n Q c d
+chain-map f here = here
+chain-map f (step {c} k h x u v) = step k h (f c k x) u (chain-map f v)
+
+-- where the straight walk from c to q ends
+pub record Reached (t : Tables) (n : ℕ) (q : Place) (c : ℕ) : Type 0 where
+  pub cell : ℕ
+  pub cell< : cell < n
+  pub chain : Chain t n (λ c k. form t q (4 * c + k) <ℤ pos 0) c cell
+  pub holds : HoldsForm t q cell
+
+module _ {X Y Z pc cc np n : ℕ} {t : Tables} (M : IsMesh X Y Z pc cc np n t) where
+  pub middle-inside : (c : ℕ) → c < n → InsideForm t (middle t c) c
+  middle-inside c l k h =
+      subst (λ z. pos 0 <ℤ z) (sym (middle-side t c (4 * c + k)))
+      (four-pos (λ i. form t (placed t c i) (4 * c + k)) (λ i hi. each i hi (ℕ-discrete i k)) k h (full k h))
+    where
+      full : (i : ℕ) → i < 4 → pos 0 <ℤ form t (placed t c i) (4 * c + i)
+      full i hi = subst (λ z. pos 0 <ℤ z) (sym (form-own t c i hi)) (M .positive c l)
+
+      each : (i : ℕ) → i < 4 → Dec (i ≡ k) → pos 0 ≤ℤ form t (placed t c i) (4 * c + k)
+      each i hi (yes e) = subst (λ x. pos 0 ≤ℤ form t (placed t c i) (4 * c + x)) e (<→≤ (full i hi))
+      each i hi (no d) = ≡→≤ (sym (form-off t c i k hi h d))
+
+  module _ (R : Room pc cc t) where
+    -- two cells strictly around one place: from each a chain to a cell that holds q, and these differ if the two do
+    pub two-walks : (q : Place) → InBoxAt X Y Z q → (x : Place) (c₁ c₂ : ℕ) → c₁ < n → c₂ < n → InsideForm t x c₁ → InsideForm t x c₂ → Walks t n q (λ p. Unit {0}) c₁ c₂
+    two-walks q box x₀ c₁ c₂ l₁ l₂ i₁ i₂ = go (start M q x₀)
+      where
+        go : (x : Place) × Start t n q x₀ x → Walks t n q (λ p. Unit {0}) c₁ c₂
+        go (x, S) = walk-from M R q box (λ p. Unit {0}) (λ m p k h w. tt) x tt (S .generic) c₁ c₂ l₁ l₂ (S .near c₁ l₁ i₁) (S .near c₂ l₂ i₂)
+
+    -- W2: THE STRAIGHT WALK
+    pub straight-walk : (q : Place) → InBoxAt X Y Z q → (c : ℕ) → c < n → Reached t n q c
+    straight-walk q box c l = go (two-walks q box (middle t c) c c l l (middle-inside c l) (middle-inside c l))
+      where
+        go : Walks t n q (λ p. Unit {0}) c c → Reached t n q c
+        go L = record { cell = L .end₁; cell< = L .end₁<; chain = chain-map (λ c k x. x .separates) (L .chain); holds = L .holds₁ }
+
+    -- NOWHERE UNCOVERED
+    pub held : (q : Place) → InBoxAt X Y Z q → (c : ℕ) × (c < n) × HoldsForm t q c
+    held q box = go (straight-walk q box 0 (omega (arith, M .cells≥)))
+      where
+        go : Reached t n q 0 → (c : ℕ) × (c < n) × HoldsForm t q c
+        go r = (r .cell, r .cell<, r .holds)

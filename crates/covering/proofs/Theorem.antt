@@ -1,0 +1,58 @@
+-- Document 02 §9, of a mesh, of tables that pass the mesh check, and after every list of calls.
+use Prim.Native.Nat.{ℕ, _+_, _*_, _<_}
+use mathlib.Core.Bool.{true}
+use mathlib.Core.List.{List}
+use mathlib.Core.Path.{_≡_, sym, _∙_}
+use native.Mathlib.Omega.{arith}
+use Rattle.geometry.specs.declared.Position.{Position}
+use Rattle.geometry.specs.Volume.{InBox}
+use Rattle.mesh.specs.declared.Mesh.{Mesh}
+use Rattle.mesh.specs.Tables.{Tables, pointCapacity, cellCapacity}
+use Rattle.mesh.specs.Mesh.{IsMesh}
+use Rattle.mesh.specs.Check.{pointsOk, cellOk, matedOk, faceOk, meshCheck}
+use Rattle.mesh.specs.Start.{startRefusal}
+use Rattle.mesh.proofs.Room.{Room, room-of}
+use Rattle.mesh.proofs.Checked.{check-mesh}
+use Rattle.locate.specs.Locate.{holds}
+use Rattle.calls.specs.Calls.{Build, Call, startBuild, meshAfter}
+use Rattle.calls.proofs.Calls.{every-list-of-calls}
+use Rattle.covering.specs.Place.{Place, whole, InBoxAt, holdsAt}
+use Rattle.covering.specs.Clauses.{cellOkBut, matedOkBut, faceOkBut, meshCheckBut}
+use Rattle.covering.specs.Claim.{Covering, Covers, Passes}
+use Rattle.covering.proofs.Linear.{HoldsForm}
+use Rattle.covering.proofs.Cover.{held}
+use Rattle.covering.proofs.Once.{once}
+use Rattle.covering.proofs.Parts.{holds-form, inside-form, inside-w, holds-whole}
+
+-- NOWHERE UNCOVERED, NOWHERE TWICE
+pub covering : {X Y Z pc cc np n : ℕ} {t : Tables} → IsMesh X Y Z pc cc np n t → Room pc cc t → Covering X Y Z n t
+covering {X} {Y} {Z} {n = n} {t = t} M R = record {
+  nowhere-uncovered = λ q box. found q box (held M R q box);
+  nowhere-twice = λ q c d lc ld ic id.
+      let w≥ = inside-w t q c ic in
+      once M R q c d lc ld (inside-form t q w≥ c .0 ic) (inside-form t q w≥ d .0 id);
+}
+  where
+    found : (q : Place) → InBoxAt X Y Z q → (c : ℕ) × (c < n) × HoldsForm t q c → (c : ℕ) × (c < n) × (holdsAt t q c ≡ true)
+    found q box (c, l, h) = (c, l, holds-form t q (box .w≥) c .1 h)
+
+-- OF TABLES THAT PASS THE MESH CHECK. The check is unfolded so that an edit that drops a clause is refused for want of that clause.
+pub checked-covering : (m : Mesh) (t : Tables) (w : ℕ) → Passes m t w → Covers m t
+unfolding meshCheck pointsOk cellOk faceOk matedOk meshCheckBut cellOkBut faceOkBut matedOkBut
+checked-covering m t w e =
+    covering (check-mesh (m .x) (m .y) (m .z) (pointCapacity t) (cellCapacity t w) (m .points) (m .cells) t e) (room-of t w)
+
+-- after every list of calls from an accepted start
+pub every-list-covers : (X Y Z : ℕ) (t : Tables) (w : ℕ) → startRefusal X Y Z t w ≡ 0 → (cs : List Call) →
+    let b = meshAfter (startBuild X Y Z t w) cs in Covering X Y Z (b .mesh .cells) (b .tables)
+every-list-covers X Y Z t w e cs =
+    let b : Build = meshAfter (startBuild X Y Z t w) cs in
+    covering (every-list-of-calls X Y Z t w e cs .mesh (18 + 3 * b .mesh .cells) (omega arith) (omega arith)) (room-of (b .tables) (18 + 3 * b .mesh .cells))
+
+-- some cell holds a position of the box
+pub some-holds : {X Y Z n : ℕ} {t : Tables} → Covering X Y Z n t → (p : Position) → InBox X Y Z p → (c : ℕ) × (c < n) × (holds t p c ≡ true)
+some-holds {n = n} {t = t} C p box =
+    go (C .nowhere-uncovered (whole p) record { w≥ = omega arith; box = record { x≤ = omega (arith, box .x≤); y≤ = omega (arith, box .y≤); z≤ = omega (arith, box .z≤) } })
+  where
+    go : (c : ℕ) × (c < n) × (holdsAt t (whole p) c ≡ true) → (c : ℕ) × (c < n) × (holds t p c ≡ true)
+    go (c, l, h) = (c, l, sym (holds-whole t p c) ∙ h)
