@@ -22,7 +22,8 @@ extern "C" {
 
 /*
  * Refusals; docs/MANUAL.md says what to do about each. A refusal changes nothing but the work area; a list that stops at a refused
- * node keeps the nodes before it. Tests are made in number order, but a file's 9 before its 2.
+ * node keeps the nodes before it. Tests are made in number order, but a file's 9 before its 2. 7 is never answered: that is proved,
+ * as never-seven in crates/covering.
  */
 #define GANTRY_ACCEPTED 0
 #define GANTRY_SHORT 1       /* room for fewer than 8 points or 6 cells, or fewer answer bytes than cells */
@@ -104,7 +105,10 @@ gantry_listed gantry_insert_list(gantry_mesh mesh, GANTRY_TABLES, const uint32_t
 /* The lowest-numbered cell that holds a position, its faces, edges and corners included. Writes the work area alone. Refusals 1 2 3 4 7. */
 gantry_located gantry_locate(gantry_mesh mesh, GANTRY_TABLES, uint32_t x, uint32_t y, uint32_t z);
 
-/* Whether record and tables are a mesh. Writes the work area alone. */
+/*
+ * Whether record and tables are a mesh. In one, every place of the box, at whole steps and at any fraction of one, is held by a cell,
+ * and none lies strictly inside two: that is proved in crates/covering. Writes the work area alone.
+ */
 bool gantry_check(gantry_mesh mesh, GANTRY_TABLES);
 
 /* The sides and nodes of a node file, three numbers a node: at most 3048. Positions are not tested. Refusals 9 2 10. */

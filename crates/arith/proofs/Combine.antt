@@ -41,17 +41,17 @@ combine e₁ e₂ hs t ρ h =
 pub data Term : Type 0 where
   times : Expr → Expr → Term
 
-abbrev pub total : List Term → Expr
-total [] = con (pos 0)
-total (times c h ∷ ts) = c ⊗ h ⊕ total ts
+abbrev pub terms : List Term → Expr
+terms [] = con (pos 0)
+terms (times c h ∷ ts) = c ⊗ h ⊕ terms ts
 
 pub data Nonneg (ρ : List ℤ) : List Term → Type 0 where
   done : Nonneg ρ []
   term : {c h : Expr} {ts : List Term} → pos 0 ≤ℤ eval ρ c → pos 0 ≤ℤ eval ρ h → Nonneg ρ ts → Nonneg ρ (times c h ∷ ts)
 
-total-nonneg : {ρ : List ℤ} {ts : List Term} → Nonneg ρ ts → pos 0 ≤ℤ eval ρ (total ts)
-total-nonneg done = ≤ℤ-refl (pos 0)
-total-nonneg (term a b r) = +-nonneg (*-nonneg a b) (total-nonneg r)
+terms-nonneg : {ρ : List ℤ} {ts : List Term} → Nonneg ρ ts → pos 0 ≤ℤ eval ρ (terms ts)
+terms-nonneg done = ≤ℤ-refl (pos 0)
+terms-nonneg (term a b r) = +-nonneg (*-nonneg a b) (terms-nonneg r)
 
-pub nonneg : (e : Expr) (ts : List Term) → T (check e (total ts)) → (ρ : List ℤ) → Nonneg ρ ts → pos 0 ≤ℤ eval ρ e
-nonneg e ts t ρ h = subst (λ z. pos 0 ≤ℤ z) (sym (ring e (total ts) t ρ)) (total-nonneg h)
+pub nonneg : (e : Expr) (ts : List Term) → T (check e (terms ts)) → (ρ : List ℤ) → Nonneg ρ ts → pos 0 ≤ℤ eval ρ e
+nonneg e ts t ρ h = subst (λ z. pos 0 ≤ℤ z) (sym (ring e (terms ts) t ρ)) (terms-nonneg h)

@@ -117,17 +117,17 @@ module _ (r : ℕ) (S : ℕ → Place → ℤ) (lin-S : (k : ℕ) → Linear (S 
 
 -- ---- the first of finitely many planes between two places: a f and b f are their values at the two
 
-abbrev pub Passes : ℤ → ℤ → Type 0
-Passes a b = (pos 0 <ℤ a) × (b <ℤ pos 0)
+abbrev pub Crossed : ℤ → ℤ → Type 0
+Crossed a b = (pos 0 <ℤ a) × (b <ℤ pos 0)
 
 -- at the place where the form (a, b) is 0, the form (c, d) is not below 0
 abbrev pub ahead : ℤ → ℤ → ℤ → ℤ → ℤ
 ahead a b c d = negℤ b *ℤ c +ℤ a *ℤ d
 
-passes? : (a b : ℤ) → Passes a b ⊎ ((a ≤ℤ pos 0) ⊎ (pos 0 ≤ℤ b))
-passes? a b = go (total a (pos 0)) (total (pos 0) b)
+crossed? : (a b : ℤ) → Crossed a b ⊎ ((a ≤ℤ pos 0) ⊎ (pos 0 ≤ℤ b))
+crossed? a b = go (total a (pos 0)) (total (pos 0) b)
   where
-    go : (a ≤ℤ pos 0) ⊎ (pos 0 <ℤ a) → (pos 0 ≤ℤ b) ⊎ (b <ℤ pos 0) → Passes a b ⊎ ((a ≤ℤ pos 0) ⊎ (pos 0 ≤ℤ b))
+    go : (a ≤ℤ pos 0) ⊎ (pos 0 <ℤ a) → (pos 0 ≤ℤ b) ⊎ (b <ℤ pos 0) → Crossed a b ⊎ ((a ≤ℤ pos 0) ⊎ (pos 0 ≤ℤ b))
     go (inl h) k = inr (inl h)
     go (inr h) (inl k) = inr (inr k)
     go (inr h) (inr k) = inl (h, k)
@@ -155,16 +155,16 @@ ahead-self a b = ring (neg (var 1) ⊗ var 0 ⊕ var 0 ⊗ var 1) (con (pos 0)) 
 
 pub first : (m : ℕ) (a b : ℕ → ℤ) → First m a b ⊎ ((k : ℕ) → k < m → (a k ≤ℤ pos 0) ⊎ (pos 0 ≤ℤ b k))
 first zero a b = inr (λ k h. absurd (omega arith))
-first (suc m) a b = go (first m a b) (passes? (a m) (b m))
+first (suc m) a b = go (first m a b) (crossed? (a m) (b m))
   where
-    wider : (F : First m a b) → (Passes (a m) (b m) → pos 0 ≤ℤ ahead (a (F .at)) (b (F .at)) (a m) (b m)) → First (suc m) a b
+    wider : (F : First m a b) → (Crossed (a m) (b m) → pos 0 ≤ℤ ahead (a (F .at)) (b (F .at)) (a m) (b m)) → First (suc m) a b
     wider F last = record { at = F .at; at< = omega (arith, F .at<); front = F .front; back = F .back; least = λ k h u w. by k h u w (ℕ-discrete k m) }
       where
         by : (k : ℕ) → k < suc m → pos 0 <ℤ a k → b k <ℤ pos 0 → Dec (k ≡ m) → pos 0 ≤ℤ ahead (a (F .at)) (b (F .at)) (a k) (b k)
-        by k h u w (yes e) = rw e (last (subst (λ i. Passes (a i) (b i)) e (u, w)))
+        by k h u w (yes e) = rw e (last (subst (λ i. Crossed (a i) (b i)) e (u, w)))
         by k h u w (no d) = F .least k (omega arith) u w
 
-    newest : Passes (a m) (b m) → ((k : ℕ) → k < m → pos 0 <ℤ a k → b k <ℤ pos 0 → pos 0 ≤ℤ ahead (a m) (b m) (a k) (b k)) → First (suc m) a b
+    newest : Crossed (a m) (b m) → ((k : ℕ) → k < m → pos 0 <ℤ a k → b k <ℤ pos 0 → pos 0 ≤ℤ ahead (a m) (b m) (a k) (b k)) → First (suc m) a b
     newest p all = record { at = m; at< = omega arith; front = p .0; back = p .1; least = λ k h u w. by k h u w (ℕ-discrete k m) }
       where
         by : (k : ℕ) → k < suc m → pos 0 <ℤ a k → b k <ℤ pos 0 → Dec (k ≡ m) → pos 0 ≤ℤ ahead (a m) (b m) (a k) (b k)
@@ -175,7 +175,7 @@ first (suc m) a b = go (first m a b) (passes? (a m) (b m))
     none (inl h) u w = <-irrefl (≤-<-trans h u)
     none (inr h) u w = <-irrefl (≤-<-trans h w)
 
-    go : First m a b ⊎ ((k : ℕ) → k < m → (a k ≤ℤ pos 0) ⊎ (pos 0 ≤ℤ b k)) → Passes (a m) (b m) ⊎ ((a m ≤ℤ pos 0) ⊎ (pos 0 ≤ℤ b m)) →
+    go : First m a b ⊎ ((k : ℕ) → k < m → (a k ≤ℤ pos 0) ⊎ (pos 0 ≤ℤ b k)) → Crossed (a m) (b m) ⊎ ((a m ≤ℤ pos 0) ⊎ (pos 0 ≤ℤ b m)) →
         First (suc m) a b ⊎ ((k : ℕ) → k < suc m → (a k ≤ℤ pos 0) ⊎ (pos 0 ≤ℤ b k))
     go (inl F) (inr d) = inl (wider F (λ p. absurd (none d (p .0) (p .1))))
     go (inl F) (inl p) = inl (by (total (pos 0) (ahead (a (F .at)) (b (F .at)) (a m) (b m))))

@@ -25,7 +25,7 @@ use Rattle.locate.specs.Locate.{holds}
 use Rattle.covering.specs.Place.{Place, whole, InBoxAt, holdsAt, sideAt, insideAt, Chain, Separates, FaceHolds, weighted, weight, SameCorners}
 use Rattle.covering.proofs.Linear.{placed, form, HoldsForm, form-whole}
 use Rattle.covering.proofs.Cover.{chain-map, Reached, straight-walk, form-own, middle, middle-inside, middle-nonneg}
-use Rattle.covering.proofs.Parts.{holds-whole, side-form, weight-form, separates-form, holds-form, inside-form, inside-w}
+use Rattle.covering.proofs.Parts.{holds-whole, whole-in-box, side-form, weight-form, separates-form, holds-form, inside-form, inside-w}
 use Rattle.covering.proofs.Shared.{formWeighted, held-inside, around, linked-value, same-value}
 
 -- the weights are the forms, times w²
@@ -118,10 +118,7 @@ module _ {X Y Z pc cc np n : ℕ} {t : Tables} (M : IsMesh X Y Z pc cc np n t) (
       q = whole (point t v)
 
       box : InBoxAt X Y Z q
-      box = record {
-        w≥ = omega arith;
-        box = record { x≤ = omega (arith, M .inside v lv .x≤); y≤ = omega (arith, M .inside v lv .y≤); z≤ = omega (arith, M .inside v lv .z≤) };
-      }
+      box = whole-in-box (M .inside v lv)
 
       U : CornerOf t n v
       U = M .used v lv

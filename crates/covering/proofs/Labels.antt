@@ -70,7 +70,7 @@ pick a b c zero = a
 pick a b c (suc zero) = b
 pick a b c (suc (suc k)) = c
 
-abbrev Col : Type 0
+abbrev pub Col : Type 0
 Col = ℕ → Expr
 
 abbrev oneₑ : Col
@@ -144,16 +144,16 @@ labelled-C1 a₀ a₁ a₂ b₀ b₁ b₂ = ring (labelₑ (λ k. var k) (λ k. 
 
 -- ---- volumes, column by column
 
-abbrev volₑ : Col → Col → Col → Expr
+abbrev pub volₑ : Col → Col → Col → Expr
 volₑ f g h = sixₑ (r 0) (r 1) (r 2) (r 3)
   where
     r : ℕ → Row
     r k = row (f k) (g k) (h k) (con (pos 1))
 
-abbrev col : ℕ → Col
+abbrev pub col : ℕ → Col
 col m k = var (4 * m + k)
 
-abbrev cols : List (ℕ → ℕ) → List ℤ → List ℤ
+abbrev pub cols : List (ℕ → ℕ) → List ℤ → List ℤ
 cols [] l = l
 cols (f ∷ fs) l = pos (f 0) ∷ pos (f 1) ∷ pos (f 2) ∷ pos (f 3) ∷ cols fs l
 

@@ -1,5 +1,5 @@
--- By computation: for seven of the twelve clauses of the mesh check, tables that meet all the others and cover a place twice or not at all. A cell k of the
--- started box is written Kk.
+-- By computation: for seven of the twelve clauses of the mesh check, tables that meet all the others and cover a place twice or not at all. Kk is cell k of
+-- the started box.
 use Prim.Native.Nat.{ℕ, _+_, _<_}
 use mathlib.Core.Bool.{true, false, cond}
 use mathlib.Core.List.{List, [], _∷_, _++_, map}
@@ -7,6 +7,7 @@ use mathlib.Core.Logic.{_≢_}
 use mathlib.Core.Path.{_≡_, refl}
 use native.Mathlib.Omega.{arith}
 use lib.Dec.{eqb}
+use lib.ListN.{replicate}
 use Rattle.arith.specs.Table.{anyBelow, allBelow, sum}
 use Rattle.arith.proofs.Flags.{clash}
 use Rattle.arith.proofs.Tables.{any-intro}
@@ -37,7 +38,7 @@ module _ {X Y Z n : ℕ} {t : Tables} where
 
 -- ---- the tables, in a box of side 4
 
--- (½, 1, 3/2) and (½, 3/2, 1), (1, ½, 3/2), (3/2, 1, ½): strictly inside K3, K2, K4 and K0
+-- (0.5, 1, 1.5), (0.5, 1.5, 1), (1, 0.5, 1.5) and (1.5, 1, 0.5), strictly inside the cells that they are named after
 abbrev in-K3 : Place
 in-K3 = record { x = 1; y = 2; z = 3; w = 2 }
 
@@ -53,15 +54,15 @@ in-K0 = record { x = 3; y = 2; z = 1; w = 2 }
 abbrev side-4 : ℕ → ℕ → Mesh
 side-4 points cells = record { x = 4; y = 4; z = 4; points = points; cells = cells }
 
--- cells that are handed on with numbers from n on
-abbrev from-cell : ℕ → List ℕ → List ℕ
-from-cell n l = map (λ u. cond (eqb u none) none (u + n)) l
+-- the neighbours of cells whose numbers are n higher
+abbrev shifted : ℕ → List ℕ → List ℕ
+shifted n l = map (λ u. cond (eqb u none) none (u + n)) l
 
 -- two whole boxes on doubled points
 doubled : Tables
 doubled =
     tables (startPoints 4 4 4 ++ startPoints 4 4 4) (startCorners ++ map (λ v. v + 8) startCorners)
-    (startNeighbours ++ from-cell 6 startNeighbours)
+    (startNeighbours ++ shifted 6 startNeighbours)
 
 -- cells 0 and 1, 2 and 3, 4 and 5: each the other's neighbour on all four faces
 pairs : List ℕ
@@ -71,16 +72,16 @@ pairs = 1 ∷ 1 ∷ 1 ∷ 1 ∷ 0 ∷ 0 ∷ 0 ∷ 0 ∷ 3 ∷ 3 ∷ 3 ∷ 3 ∷ 
 folded : Tables
 folded = tables (startPoints 4 4 4) (0 ∷ 1 ∷ 3 ∷ 7 ∷ 0 ∷ 1 ∷ 3 ∷ 7 ∷ 0 ∷ 2 ∷ 6 ∷ 7 ∷ 0 ∷ 2 ∷ 6 ∷ 7 ∷ 0 ∷ 4 ∷ 5 ∷ 7 ∷ 0 ∷ 4 ∷ 5 ∷ 7 ∷ []) pairs
 
--- the same, and the folded pairs with two corners swapped: their negative volumes take one box off the sum
+-- two whole boxes, and the folded pairs with two corners swapped: their negative volumes take one box off the sum
 turned : Tables
 turned =
     tables (doubled .points)
     (doubled .corners ++ (0 ∷ 1 ∷ 7 ∷ 3 ∷ 0 ∷ 1 ∷ 7 ∷ 3 ∷ 0 ∷ 2 ∷ 7 ∷ 6 ∷ 0 ∷ 2 ∷ 7 ∷ 6 ∷ 0 ∷ 4 ∷ 7 ∷ 5 ∷ 0 ∷ 4 ∷ 7 ∷ 5 ∷ []))
-    (doubled .neighbours ++ from-cell 12 pairs)
+    (doubled .neighbours ++ shifted 12 pairs)
 
 -- K2 again in the place of K0, with no neighbours
-bare : Tables
-bare =
+unshared : Tables
+unshared =
     tables (startPoints 4 4 4) (0 ∷ 2 ∷ 6 ∷ 7 ∷ 0 ∷ 3 ∷ 2 ∷ 7 ∷ 0 ∷ 2 ∷ 6 ∷ 7 ∷ 0 ∷ 6 ∷ 4 ∷ 7 ∷ 0 ∷ 4 ∷ 5 ∷ 7 ∷ 0 ∷ 5 ∷ 1 ∷ 7 ∷ [])
     (none ∷ none ∷ none ∷ none ∷ none ∷ 2 ∷ none ∷ none ∷ none ∷ 3 ∷ 1 ∷ none ∷ none ∷ 4 ∷ 2 ∷ none ∷ none ∷ 5 ∷ 3 ∷ none ∷ none ∷ none ∷ 4 ∷ none ∷ [])
 
@@ -102,15 +103,22 @@ mismatched =
 -- ---- each meets all clauses but one
 
 pub needed-clauses : NeededClauses
-unfolding doubled turned pairs folded bare uncounted mismatched startPoints startCorners startNeighbours pointCapacity cellCapacity countsOk boxOk usedOk wallOk someWall meshCheckBut cellOkBut matedOkBut faceOkBut pointIn corner across cornerAt cellVolume side faceHas sameFace volume volume6 sum allBelow anyBelow holds holdsAt insideAt sideAt tablesInParts
+unfolding doubled turned pairs folded unshared uncounted mismatched startPoints startCorners startNeighbours pointCapacity cellCapacity countsOk boxOk usedOk wallOk someWall meshCheckBut cellOkBut matedOkBut faceOkBut pointIn corner across cornerAt cellVolume side faceHas sameFace volume volume6 sum allBelow anyBelow holds holdsAt insideAt sideAt tablesInParts
 needed-clauses = record {
   -- no cells, in a box whose sides are 0
   capacities-sides-counts = record {
     mesh = record { x = 0; y = 0; z = 0; points = 0; cells = 0 };
-    tables = tables [] [] [];
-    work = 0;
+    tables = tables (replicate 24 0) (replicate 24 0) (replicate 24 0);
+    work = 18;
     others = refl;
     uncovered-or-twice = uncovered record { x = 0; y = 0; z = 0; w = 1 } (omega arith) refl;
+  };
+  neighbour-in-range = record {
+    mesh = side-4 8 6;
+    tables = uncounted;
+    work = 18;
+    others = refl;
+    uncovered-or-twice = uncovered in-K3 (omega arith) refl;
   };
   volume-above-zero = record {
     mesh = side-4 16 18;
@@ -121,17 +129,10 @@ needed-clauses = record {
   };
   unshared-on-wall = record {
     mesh = side-4 8 6;
-    tables = bare;
+    tables = unshared;
     work = 18;
     others = refl;
     uncovered-or-twice = uncovered in-K0 (omega arith) refl;
-  };
-  neighbour-in-range = record {
-    mesh = side-4 8 6;
-    tables = uncounted;
-    work = 18;
-    others = refl;
-    uncovered-or-twice = uncovered in-K3 (omega arith) refl;
   };
   shared-points = record {
     mesh = side-4 8 6;

@@ -3,7 +3,7 @@ use Prim.Native.Nat.{ℕ, _+_, _*_, _≤_, _<_}
 use mathlib.Core.Bool.{Bool, true, false}
 use mathlib.Core.Logic.{_≢_, _⊎_, inl, inr}
 use mathlib.Core.Path.{_≡_, refl, sym, ap, ap₂, _∙_, subst}
-use mathlib.Core.List.{List, [], _∷_}
+use mathlib.Core.List.{[], _∷_}
 use native.Mathlib.Omega.{arith}
 use native.Mathlib.Decide.{ℕ-discrete}
 use native.Mathlib.Nat.{mul-le-mul-left}
@@ -22,11 +22,11 @@ use Rattle.mesh.specs.Tables.{Tables, corner, cornerAt, cellVolume}
 use Rattle.mesh.specs.Mesh.{IsMesh}
 use Rattle.mesh.proofs.Room.{Room}
 use Rattle.covering.specs.Place.{Place, whole, InBoxAt}
-use Rattle.covering.proofs.Linear.{placed, rowVolume, replacedRow, HoldsForm, InsideForm, Row, row, r₄, env₄, sixₑ, lin, linₑ, between, form-at, volume-at}
+use Rattle.covering.proofs.Linear.{placed, rowVolume, replacedRow, HoldsForm, InsideForm, row, r₄, env₄, sixₑ, lin, linₑ, between, form-at, volume-at}
 use Rattle.covering.proofs.Walk.{Walks}
 use Rattle.covering.proofs.Cover.{two-walks}
 use Rattle.covering.proofs.Closed.{sumOf}
-use Rattle.covering.proofs.Labels.{top, top-at, top-off, labels-one}
+use Rattle.covering.proofs.Labels.{top, volₑ, col, cols, top-at, top-off, labels-one}
 
 -- ---- a form with whole coefficients
 
@@ -126,39 +126,30 @@ module _ (X Y Z : ℕ) (p : Position) where
 
 -- ---- volumes of labels
 
-abbrev vₑ : (ℕ → Expr) → (ℕ → Expr) → (ℕ → Expr) → Expr
-vₑ f g h = sixₑ (r 0) (r 1) (r 2) (r 3)
-  where
-    r : ℕ → Row
-    r k = row (f k) (g k) (h k) (con (pos 1))
-
-abbrev eight : (ℕ → ℕ) → (ℕ → ℕ) → List ℤ
-eight f g = pos (f 0) ∷ pos (f 1) ∷ pos (f 2) ∷ pos (f 3) ∷ pos (g 0) ∷ pos (g 1) ∷ pos (g 2) ∷ pos (g 3) ∷ []
-
 module _ (s : ℕ → Position) where
   no-x : ((k : ℕ) → k < 4 → s k .x ≡ 0) → volume s ≡ pos 0
   unfolding volume volume6
   no-x h =
       volume-cong s (λ k. record { x = 0; y = s k .y; z = s k .z }) (λ k l i. record { x = h k l i; y = s k .y; z = s k .z }) ∙
-      ring (vₑ (λ k. con (pos 0)) (λ k. var k) (λ k. var (4 + k))) (con (pos 0)) tt (eight (λ k. s k .y) (λ k. s k .z))
+      ring (volₑ (λ k. con (pos 0)) (col 0) (col 1)) (con (pos 0)) tt (cols ((λ k. s k .y) ∷ (λ k. s k .z) ∷ []) [])
 
   same-xy : ((k : ℕ) → k < 4 → s k .x ≡ s k .y) → volume s ≡ pos 0
   unfolding volume volume6
   same-xy h =
       volume-cong s (λ k. record { x = s k .y; y = s k .y; z = s k .z }) (λ k l i. record { x = h k l i; y = s k .y; z = s k .z }) ∙
-      ring (vₑ (λ k. var k) (λ k. var k) (λ k. var (4 + k))) (con (pos 0)) tt (eight (λ k. s k .y) (λ k. s k .z))
+      ring (volₑ (col 0) (col 0) (col 1)) (con (pos 0)) tt (cols ((λ k. s k .y) ∷ (λ k. s k .z) ∷ []) [])
 
   same-yz : ((k : ℕ) → k < 4 → s k .y ≡ s k .z) → volume s ≡ pos 0
   unfolding volume volume6
   same-yz h =
       volume-cong s (λ k. record { x = s k .x; y = s k .z; z = s k .z }) (λ k l i. record { x = s k .x; y = h k l i; z = s k .z }) ∙
-      ring (vₑ (λ k. var k) (λ k. var (4 + k)) (λ k. var (4 + k))) (con (pos 0)) tt (eight (λ k. s k .x) (λ k. s k .z))
+      ring (volₑ (col 0) (col 1) (col 1)) (con (pos 0)) tt (cols ((λ k. s k .x) ∷ (λ k. s k .z) ∷ []) [])
 
   one-z : ((k : ℕ) → k < 4 → s k .z ≡ 1) → volume s ≡ pos 0
   unfolding volume volume6
   one-z h =
       volume-cong s (λ k. record { x = s k .x; y = s k .y; z = 1 }) (λ k l i. record { x = s k .x; y = s k .y; z = h k l i }) ∙
-      ring (vₑ (λ k. var k) (λ k. var (4 + k)) (λ k. con (pos 1))) (con (pos 0)) tt (eight (λ k. s k .x) (λ k. s k .y))
+      ring (volₑ (col 0) (col 1) (λ k. con (pos 1))) (con (pos 0)) tt (cols ((λ k. s k .x) ∷ (λ k. s k .y) ∷ []) [])
 
 -- four corners of four kinds
 pub record Full (X Y Z : ℕ) (s : ℕ → Position) : Type 0 where

@@ -14,11 +14,11 @@ use Rattle.arith.proofs.Order.{arithℤ, leZ-true, le-leZ, ltZ-true, lt-ltZ, *-
 use Rattle.arith.proofs.Ring.{var, _⊗_, ring}
 use Rattle.arith.proofs.Tables.{all-at, all-intro}
 use Rattle.geometry.specs.declared.Position.{Position}
-use Rattle.geometry.specs.Volume.{volume6, volume, replaced}
+use Rattle.geometry.specs.Volume.{InBox, volume6, volume, replaced}
 use Rattle.mesh.specs.Tables.{Tables, pointIn, cellOf, opposite, corner, cornerAt, cellVolume, side}
 use Rattle.mesh.proofs.FaceNumbers.{opposite<}
 use Rattle.locate.specs.Locate.{holds}
-use Rattle.covering.specs.Place.{Place, whole, inParts, tablesInParts, holdsAt, sideAt, insideAt, weight}
+use Rattle.covering.specs.Place.{Place, whole, inParts, InBoxAt, tablesInParts, holdsAt, sideAt, insideAt, weight}
 use Rattle.covering.proofs.Linear.{Row, row, p₃, q₄, rx, ry, rz, env₃, env₄, atₑ, sixₑ, rowVolume, replacedRow, form, HoldsForm, InsideForm}
 
 -- ---- at whole steps
@@ -46,6 +46,12 @@ side-whole t p f = ap (λ u. side u p f) (tables-whole t)
 pub weight-whole : (t : Tables) (p : Position) (c : ℕ) → weight t (whole p) c ≡ cellVolume t c
 unfolding weight
 weight-whole t p c = ap (λ u. cellVolume u c) (tables-whole t)
+
+pub whole-in-box : {X Y Z : ℕ} {p : Position} → InBox X Y Z p → InBoxAt X Y Z (whole p)
+whole-in-box box = record {
+  w≥ = omega arith;
+  box = record { x≤ = omega (arith, box .x≤); y≤ = omega (arith, box .y≤); z≤ = omega (arith, box .z≤) };
+}
 
 -- ---- volumes of scaled positions
 

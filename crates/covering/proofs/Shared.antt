@@ -14,7 +14,6 @@ use Rattle.arith.proofs.Integers.{eq-of-sub}
 use Rattle.arith.proofs.Sums.{sum-cong, sum-zero, sum-swap, sum-one, sum-times}
 use Rattle.arith.proofs.Ring.{var, con, _⊖_, _⊗_, neg, ring}
 use Rattle.arith.proofs.Combine.{hyp, combine}
-use Rattle.geometry.specs.Volume.{InBox}
 use Rattle.mesh.specs.Tables.{Tables, none, cellOf, opposite, point, corner, across, cornerAt, cellVolume, side, mate}
 use Rattle.mesh.specs.Mesh.{OnFace, IsMesh}
 use Rattle.mesh.proofs.Room.{Room}
@@ -23,10 +22,10 @@ use Rattle.mesh.proofs.FaceNumbers.{opposite<, face-cell, face-opposite, face-e
 use Rattle.covering.specs.Place.{Place, InBoxAt, Chain, here, step, FaceHolds}
 use Rattle.covering.proofs.Linear.{placed, form, HoldsForm, InsideForm, mix, form-mix, form-whole, form-between, mate-opposite-form}
 use Rattle.covering.proofs.Avoid.{overAll, over-each, outweighs, outweighs-neg}
-use Rattle.covering.proofs.Walk.{Stands, Leaves, Walks, walk-from}
+use Rattle.covering.proofs.Walk.{Visited, Leaves, Walks, walk-from}
 use Rattle.covering.proofs.Cover.{Start, start, middle, middle-inside, form-own, form-off}
 use Rattle.covering.proofs.Once.{once}
-use Rattle.covering.proofs.Parts.{holds-form, plane-form}
+use Rattle.covering.proofs.Parts.{whole-in-box, holds-form, plane-form}
 
 -- φ, a number for each point, weighted with the forms of cell c
 unfoldable pub formWeighted : Tables → Place → (ℕ → ℤ) → ℕ → ℤ
@@ -59,14 +58,8 @@ module _ {X Y Z pc cc np n : ℕ} {t : Tables} (M : IsMesh X Y Z pc cc np n t) (
   middle-box c l = mix-box X Y Z 1 (mix 1 (placed t c 0) 1 (placed t c 1)) (mix 1 (placed t c 2) 1 (placed t c 3))
       (mix-box X Y Z 1 (placed t c 0) (placed t c 1) (at 0 (omega arith)) (at 1 (omega arith))) (mix-box X Y Z 1 (placed t c 2) (placed t c 3) (at 2 (omega arith)) (at 3 (omega arith)))
     where
-      inside : (k : ℕ) → k < 4 → InBox X Y Z (cornerAt t c k)
-      inside k h = unfold cornerAt in M .inside (corner t c k) (M .corner< c k l h)
-
       at : (k : ℕ) → k < 4 → InBoxAt X Y Z (placed t c k)
-      at k h = record {
-        w≥ = omega arith;
-        box = record { x≤ = omega (arith, inside k h .x≤); y≤ = omega (arith, inside k h .y≤); z≤ = omega (arith, inside k h .z≤) };
-      }
+      at k h = whole-in-box (unfold cornerAt in M .inside (corner t c k) (M .corner< c k l h))
 
   -- what lies strictly inside a cell is held by no other
   pub held-inside : (q : Place) (d c : ℕ) → d < n → c < n → HoldsForm t q d → InsideForm t q c → d ≡ c
@@ -115,25 +108,25 @@ module _ {X Y Z pc cc np n : ℕ} {t : Tables} (M : IsMesh X Y Z pc cc np n t) (
         up {z} h = omega (arithℤ, parts-neg z)
 
     -- the first cell of a walk
-    first-stands : {r : Place} {c d : ℕ} → Chain t n (Leaves t r Way) c d → Stands t Way d → Stands t Way c
-    first-stands here s = s
-    first-stands (step k h x u v) s = x .from
+    first-visited : {r : Place} {c d : ℕ} → Chain t n (Leaves t r Way) c d → Visited t Way d → Visited t Way c
+    first-visited here s = s
+    first-visited (step k h x u v) s = x .from
 
-    stands-holds : (c : ℕ) → c < n → Stands t Way c → HoldsForm t q c
-    stands-holds c l s = way-holds (s .place) c l (s .way) (s .inside)
+    visited-holds : (c : ℕ) → c < n → Visited t Way c → HoldsForm t q c
+    visited-holds c l s = way-holds (s .place) c l (s .way) (s .inside)
 
-    linked : {r : Place} {c d : ℕ} → c < n → Chain t n (Leaves t r Way) c d → Stands t Way d → Chain t n (FaceHolds t q) c d
+    linked : {r : Place} {c d : ℕ} → c < n → Chain t n (Leaves t r Way) c d → Visited t Way d → Chain t n (FaceHolds t q) c d
     linked l here s = here
     linked l (step {c} k h x u v) s =
         step k h
         record {
           cell = holds-form t q (box .w≥) c .1 own;
-          plane = plane-form t q (box .w≥) (4 * c + k) .1 (face-holds c k l h u own (stands-holds (across t (4 * c + k)) u (first-stands v s)));
+          plane = plane-form t q (box .w≥) (4 * c + k) .1 (face-holds c k l h u own (visited-holds (across t (4 * c + k)) u (first-visited v s)));
         }
         u (linked u v s)
       where
         own : HoldsForm t q c
-        own = stands-holds c l (x .from)
+        own = visited-holds c l (x .from)
 
     -- CELLS THAT HOLD ONE PLACE ARE LINKED THROUGH FACES THAT HOLD IT
     pub around : (c d : ℕ) → c < n → d < n → HoldsForm t q c → HoldsForm t q d → Chain t n (FaceHolds t q) c d

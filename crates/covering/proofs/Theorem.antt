@@ -22,7 +22,7 @@ use Rattle.covering.specs.Claim.{Covering, Covers, Passes}
 use Rattle.covering.proofs.Linear.{HoldsForm}
 use Rattle.covering.proofs.Cover.{held}
 use Rattle.covering.proofs.Once.{once}
-use Rattle.covering.proofs.Parts.{holds-form, inside-form, inside-w, holds-whole}
+use Rattle.covering.proofs.Parts.{holds-whole, whole-in-box, holds-form, inside-form, inside-w}
 
 -- NOWHERE UNCOVERED, NOWHERE TWICE
 pub covering : {X Y Z pc cc np n : ℕ} {t : Tables} → IsMesh X Y Z pc cc np n t → Room pc cc t → Covering X Y Z n t
@@ -52,7 +52,7 @@ every-list-covers X Y Z t w e cs =
 -- some cell holds a position of the box
 pub some-holds : {X Y Z n : ℕ} {t : Tables} → Covering X Y Z n t → (p : Position) → InBox X Y Z p → (c : ℕ) × (c < n) × (holds t p c ≡ true)
 some-holds {n = n} {t = t} C p box =
-    go (C .nowhere-uncovered (whole p) record { w≥ = omega arith; box = record { x≤ = omega (arith, box .x≤); y≤ = omega (arith, box .y≤); z≤ = omega (arith, box .z≤) } })
+    go (C .nowhere-uncovered (whole p) (whole-in-box box))
   where
     go : (c : ℕ) × (c < n) × (holdsAt t (whole p) c ≡ true) → (c : ℕ) × (c < n) × (holds t p c ≡ true)
     go (c, l, h) = (c, l, sym (holds-whole t p c) ∙ h)

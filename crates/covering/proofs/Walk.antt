@@ -153,15 +153,15 @@ left t n q p = countBelow (4 * n) (between? t q p)
 
 -- ---- the cells of a walk
 
--- cell c has a place of the walk strictly inside, and `Way` holds of that place
-pub record Stands (t : Tables) (Way : Place → Type 0) (c : ℕ) : Type 0 where
+-- cell c has a place of a walk strictly inside, and `Way` holds of that place
+pub record Visited (t : Tables) (Way : Place → Type 0) (c : ℕ) : Type 0 where
   pub place : Place
   pub way : Way place
   pub inside : InsideForm t place c
 
 -- the walk to q leaves such a cell c through face k
 pub record Leaves (t : Tables) (q : Place) (Way : Place → Type 0) (c k : ℕ) : Type 0 where
-  pub from : Stands t Way c
+  pub from : Visited t Way c
   pub separates : form t q (4 * c + k) <ℤ pos 0
 
 -- ---- one event: on to just behind the first plane
@@ -179,14 +179,14 @@ module _ {X Y Z pc cc np n : ℕ} {t : Tables} (M : IsMesh X Y Z pc cc np n t) (
   abbrev next : Place
   next = mix N y 1 q
 
-  side-y : (f : ℕ) → form t y f ≡ ahead (form t p (F .at)) (form t q (F .at)) (form t p f) (form t q f)
-  side-y f =
+  form-y : (f : ℕ) → form t y f ≡ ahead (form t p (F .at)) (form t q (F .at)) (form t p f) (form t q f)
+  form-y f =
       form-mix t (negPart (form t q (F .at))) p (posPart (form t p (F .at))) q f ∙
       ap₂ (λ u v. u *ℤ form t p f +ℤ v *ℤ form t q f) (negPart-is (form t q (F .at)) (F .back)) (posPart-is (form t p (F .at)) (F .front))
 
   y-pos : (f : ℕ) → pos 0 <ℤ form t p f → pos 0 ≤ℤ form t q f → pos 0 <ℤ form t y f
   y-pos f h k =
-      subst (λ z. pos 0 <ℤ z) (sym (side-y f))
+      subst (λ z. pos 0 <ℤ z) (sym (form-y f))
       (+-pos {a = negℤ (form t q (F .at)) *ℤ form t p f} {b = form t p (F .at) *ℤ form t q f} (*-pos (neg-pos (F .back)) h) (*-nonneg (<→≤ (F .front)) k))
 
   y-nonneg : (f : ℕ) → f < 4 * n → pos 0 <ℤ form t p f → pos 0 ≤ℤ form t y f
@@ -194,7 +194,7 @@ module _ {X Y Z pc cc np n : ℕ} {t : Tables} (M : IsMesh X Y Z pc cc np n t) (
     where
       go : (pos 0 ≤ℤ form t q f) ⊎ (form t q f <ℤ pos 0) → pos 0 ≤ℤ form t y f
       go (inl k) = <→≤ (y-pos f h k)
-      go (inr k) = subst (λ z. pos 0 ≤ℤ z) (sym (side-y f)) (F .least f f< h k)
+      go (inr k) = subst (λ z. pos 0 ≤ℤ z) (sym (form-y f)) (F .least f f< h k)
 
   -- a face whose plane is met there is one that separates
   y-zero : (f : ℕ) → pos 0 <ℤ form t p f → form t y f ≡ pos 0 → form t q f <ℤ pos 0
@@ -251,7 +251,7 @@ module _ {X Y Z pc cc np n : ℕ} {t : Tables} (M : IsMesh X Y Z pc cc np n t) (
               (subst (λ z. z ≤ℤ pos 0) (sym (form-mix t (negPart (form t q (F .at))) p (posPart (form t p (F .at))) q k)) (low (negPart (form t q (F .at))) (posPart (form t p (F .at))) (form t p k) (form t q k) h back)) back))))
 
       met : form t y (F .at) ≡ pos 0
-      met = side-y (F .at) ∙ ring (neg (var 1) ⊗ var 0 ⊕ var 0 ⊗ var 1) (con (pos 0)) tt (form t p (F .at) ∷ form t q (F .at) ∷ [])
+      met = form-y (F .at) ∙ ring (neg (var 1) ⊗ var 0 ⊕ var 0 ⊗ var 1) (con (pos 0)) tt (form t p (F .at) ∷ form t q (F .at) ∷ [])
 
       gone : between? t q next (F .at) ≡ false
       gone = rw (leZ-not (form t next (F .at)) (pos 0), le-leZ (<→≤ (subst (λ z. z <ℤ pos 0) (sym (next-zero (F .at) met)) (F .back))))
@@ -447,7 +447,7 @@ pub record Walks (t : Tables) (n : ℕ) (q : Place) (Way : Place → Type 0) (c�
   pub end₁< : end₁ < n
   pub end₂< : end₂ < n
   pub chain : Chain t n (Leaves t q Way) c₁ end₁
-  pub last : Stands t Way end₁
+  pub last : Visited t Way end₁
   pub holds₁ : HoldsForm t q end₁
   pub holds₂ : HoldsForm t q end₂
   pub apart : end₁ ≡ end₂ → c₁ ≡ c₂

@@ -16,7 +16,7 @@ use Rattle.insertion.specs.declared.Listed.the-variants.{Stopped, Refused as Al
 use Rattle.insertion.specs.Insertion.{insertCall}
 use Rattle.insertion.specs.List.{listCall}
 use Rattle.covering.specs.Place.{Place, InBoxAt, holdsAt, insideAt}
-use Rattle.covering.specs.Clauses.{Clause, sizes, positive-volumes, bare-on-wall, neighbour-numbers, same-points, far-side, volumes-add-up, isMeshBut}
+use Rattle.covering.specs.Clauses.{Clause, sizes, positive-volumes, faces-on-walls, neighbour-numbers, same-points, far-side, volumes-add-up, isMeshBut}
 
 -- 'every position of the box, at whole steps and at any fraction of one, is held by at least one cell, and lies strictly inside at most one'
 pub record Covering (X Y Z n : ℕ) (t : Tables) : Type 0 where
@@ -53,9 +53,9 @@ pub record Needed (out : Clause) : Type 0 where
 
 pub record NeededClauses : Type 0 where
   pub capacities-sides-counts : Needed sizes
-  pub volume-above-zero : Needed positive-volumes
-  pub unshared-on-wall : Needed bare-on-wall
   pub neighbour-in-range : Needed neighbour-numbers
+  pub volume-above-zero : Needed positive-volumes
+  pub unshared-on-wall : Needed faces-on-walls
   pub shared-points : Needed same-points
   pub on-far-side : Needed far-side
   pub sum-of-volumes : Needed volumes-add-up

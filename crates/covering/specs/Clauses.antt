@@ -10,9 +10,10 @@ use Rattle.mesh.specs.declared.Mesh.{Mesh}
 use Rattle.mesh.specs.Tables.{Tables, pointCapacity, cellCapacity, none, cellOf, opposite, point, corner, across, cornerAt, cellVolume, side, sameFace}
 use Rattle.mesh.specs.Check.{sameZ, countsOk, boxOk, usedOk, someWall}
 
+-- capacities, sides and counts are taken as one clause
 pub data Clause : Type 0 where
-  sizes box-corners points-inside points-used corner-numbers positive-volumes : Clause
-  bare-on-wall neighbour-numbers same-points named-back far-side volumes-add-up : Clause
+  sizes box-corners points-inside points-used corner-numbers neighbour-numbers : Clause
+  positive-volumes faces-on-walls same-points named-back far-side volumes-add-up : Clause
   no-clause : Clause
 
 abbrev pub number : Clause → ℕ
@@ -21,9 +22,9 @@ number box-corners = 1
 number points-inside = 2
 number points-used = 3
 number corner-numbers = 4
-number positive-volumes = 5
-number bare-on-wall = 6
-number neighbour-numbers = 7
+number neighbour-numbers = 5
+number positive-volumes = 6
+number faces-on-walls = 7
 number same-points = 8
 number named-back = 9
 number far-side = 10
@@ -45,7 +46,7 @@ matedOkBut out t f g =
 
 unfoldable pub faceOkBut : Clause → ℕ → ℕ → ℕ → Tables → ℕ → ℕ → Bool
 faceOkBut out X Y Z t n f =
-    cond (eqb (across t f) none) (unless out bare-on-wall (someWall X Y Z t f))
+    cond (eqb (across t f) none) (unless out faces-on-walls (someWall X Y Z t f))
     (unless out neighbour-numbers (ltb (across t f) n) && anyBelow 4 (λ k. matedOkBut out t f (4 * across t f + k)))
 
 unfoldable pub meshCheckBut : Clause → ℕ → ℕ → ℕ → ℕ → ℕ → ℕ → ℕ → Tables → Bool

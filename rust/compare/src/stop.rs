@@ -96,6 +96,6 @@ fn unknown_answer(call: &Call, left: &Left) -> Option<String> {
     let (name, outcome) = (call.name(), left.answer.outcome());
     (!is_reachable(name, outcome)).then(|| {
         let outcome = outcome_name(outcome);
-        format!("answer: {outcome} to {name}, which no input is known to reach")
+        format!("answer: {outcome} to {name}, which that call never gives")
     })
 }

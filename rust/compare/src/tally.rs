@@ -9,7 +9,7 @@ pub const NO: u8 = u8::MAX;
 
 const INSERTION: &[u8] = &[ACCEPTED, 1, 2, 3, 4, 5, 6, 8];
 
-/// The outcomes of each call that some input reaches. 7 is not among them: no mesh is known in which it occurs, and a
+/// The outcomes of each call that some input reaches. 7 is not among them: it is proved never to occur, and a
 /// comparison that meets one stops.
 const REACHABLE: [(&str, &[u8]); 10] = [
     ("start", &[ACCEPTED, 1, 2]),

@@ -133,6 +133,6 @@ fn an_unheld_position_stops_both() {
     assert!(!stop.is_difference);
     assert_eq!(
         stop.what,
-        "answer: 7 to locate, which no input is known to reach"
+        "answer: 7 to locate, which that call never gives"
     );
 }

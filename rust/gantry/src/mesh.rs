@@ -145,7 +145,7 @@ impl Mesh {
     }
 
     /// Inserts one node by the float sphere test. Refused with [`Refusal::Outside`], [`Refusal::Taken`],
-    /// [`Refusal::PointsFull`], [`Refusal::Unheld`] or [`Refusal::CellsFull`].
+    /// [`Refusal::PointsFull`] or [`Refusal::CellsFull`].
     ///
     /// ```
     /// use gantry::Mesh;
@@ -205,8 +205,8 @@ impl Mesh {
         }
     }
 
-    /// The lowest-numbered cell that holds the position, its faces, edges and corners included. Refused with
-    /// [`Refusal::Outside`] or [`Refusal::Unheld`].
+    /// The lowest-numbered cell that holds the position, its faces, edges and corners included. Some cell holds every
+    /// position of the box. Refused with [`Refusal::Outside`].
     ///
     /// ```
     /// use gantry::{Mesh, Refusal};
