@@ -19,7 +19,8 @@ use Rattle.mesh.specs.Tables.{Tables, cornerAt, cellVolume}
 use Rattle.mesh.specs.Mesh.{IsMesh}
 use Rattle.mesh.proofs.Room.{Room}
 use Rattle.mesh.proofs.Held.{side-at}
-use Rattle.covering.specs.Place.{Place, InBoxAt, Chain, here, step}
+use Rattle.covering.specs.Place.{Place, InBoxAt}
+use Rattle.covering.specs.Holders.{Chain, here, step}
 use Rattle.covering.proofs.Linear.{placed, form, HoldsForm, InsideForm, mix, form-mix, form-whole}
 use Rattle.covering.proofs.Avoid.{Avoids, avoid}
 use Rattle.covering.proofs.Walk.{cut, cut-mix, Generic, Walks, walk-from}

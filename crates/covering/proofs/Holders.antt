@@ -22,7 +22,8 @@ use Rattle.mesh.proofs.Room.{Room}
 use Rattle.mesh.proofs.Faces.{distinct}
 use Rattle.mesh.proofs.Held.{own-corner, side-at}
 use Rattle.locate.specs.Locate.{holds}
-use Rattle.covering.specs.Place.{Place, whole, InBoxAt, holdsAt, sideAt, insideAt, Chain, Separates, FaceHolds, weighted, weight, SameCorners}
+use Rattle.covering.specs.Place.{Place, whole, InBoxAt, holdsAt, sideAt, insideAt}
+use Rattle.covering.specs.Holders.{Chain, Separates, FaceHolds, weighted, weight, SameCorners}
 use Rattle.covering.proofs.Linear.{placed, form, HoldsForm, form-whole}
 use Rattle.covering.proofs.Cover.{chain-map, Reached, straight-walk, form-own, middle, middle-inside, middle-nonneg}
 use Rattle.covering.proofs.Parts.{holds-whole, whole-in-box, side-form, weight-form, separates-form, holds-form, inside-form, inside-w}

@@ -18,7 +18,8 @@ use Rattle.geometry.specs.Volume.{InBox, volume6, volume, replaced}
 use Rattle.mesh.specs.Tables.{Tables, pointIn, cellOf, opposite, corner, cornerAt, cellVolume, side}
 use Rattle.mesh.proofs.FaceNumbers.{opposite<}
 use Rattle.locate.specs.Locate.{holds}
-use Rattle.covering.specs.Place.{Place, whole, inParts, InBoxAt, tablesInParts, holdsAt, sideAt, insideAt, weight}
+use Rattle.covering.specs.Place.{Place, whole, inParts, InBoxAt, tablesInParts, holdsAt, sideAt, insideAt}
+use Rattle.covering.specs.Holders.{weight}
 use Rattle.covering.proofs.Linear.{Row, row, p₃, q₄, rx, ry, rz, env₃, env₄, atₑ, sixₑ, rowVolume, replacedRow, form, HoldsForm, InsideForm}
 
 -- ---- at whole steps

@@ -19,7 +19,8 @@ use Rattle.mesh.specs.Mesh.{OnFace, IsMesh}
 use Rattle.mesh.proofs.Room.{Room}
 use Rattle.mesh.proofs.Faces.{few, mated}
 use Rattle.mesh.proofs.FaceNumbers.{opposite<, face-cell, face-opposite, face-eq}
-use Rattle.covering.specs.Place.{Place, InBoxAt, Chain, here, step, FaceHolds}
+use Rattle.covering.specs.Place.{Place, InBoxAt}
+use Rattle.covering.specs.Holders.{Chain, here, step, FaceHolds}
 use Rattle.covering.proofs.Linear.{placed, form, HoldsForm, InsideForm, mix, form-mix, form-whole, form-between, mate-opposite-form}
 use Rattle.covering.proofs.Avoid.{overAll, over-each, outweighs, outweighs-neg}
 use Rattle.covering.proofs.Walk.{Visited, Leaves, Walks, walk-from}

@@ -27,7 +27,8 @@ use Rattle.mesh.proofs.Faces.{mated, mate-mate, same-back}
 use Rattle.mesh.proofs.Held.{own-corner, side-at}
 use Rattle.mesh.proofs.Walls.{wall-inner}
 use Rattle.mesh.proofs.FaceNumbers.{opposite<, face-cell, face-opposite, face-eq}
-use Rattle.covering.specs.Place.{Place, whole, InBoxAt, Chain, here, step}
+use Rattle.covering.specs.Place.{Place, whole, InBoxAt}
+use Rattle.covering.specs.Holders.{Chain, here, step}
 use Rattle.covering.proofs.Linear.{form, HoldsForm, InsideForm, Row, row, r₄, env₄, lin, linₑ, mix, o₀, e₁, e₂, e₃, form-of-sides, form-mix, form-whole, form-between, mate-opposite-form}
 use Rattle.covering.proofs.Avoid.{Linear, overAll, over-each, outweighs, at-zero, First, first, ahead}
 

@@ -205,8 +205,8 @@ impl Mesh {
         }
     }
 
-    /// The lowest-numbered cell that holds the position, its faces, edges and corners included. Some cell holds every
-    /// position of the box. Refused with [`Refusal::Outside`].
+    /// The lowest-numbered cell that holds the position, its faces, edges and corners included: every position of the
+    /// box is held by one. Refused with [`Refusal::Outside`].
     ///
     /// ```
     /// use gantry::{Mesh, Refusal};
