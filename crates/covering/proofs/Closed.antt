@@ -1,4 +1,4 @@
--- Sums over the cells that depend on the walls only. Each point number gets a place in ℕ³ (`φ`), and so each cell a volume. A volume is
+-- F5: sums over the cells that depend on the walls only. Each point number gets a place in ℕ³ (`φ`), and so each cell a volume. A volume is
 -- the sum of its four `facet`s, mated faces have opposite facets, and what is left are the wall faces.
 use Prim.Native.Nat.{ℕ, _+_, _*_, _<_}
 use mathlib.Core.Bool.{Bool, true, false, not, cond}

@@ -43,7 +43,7 @@ module _ (t : Tables) (c : ℕ) where
       ap₂ (λ u v. u *ℤ form t q (4 * c + j) -ℤ v *ℤ form t q (4 * c + i)) (form-own i hi) (form-off i j hi hj d) ∙
       (ap (λ u. cellVolume t c *ℤ form t q (4 * c + j) -ℤ u) (zero-*ℤ (form t q (4 * c + i))) ∙ +ℤ-idr (cellVolume t c *ℤ form t q (4 * c + j)))
 
--- ---- a good start near a given place
+-- ---- F2: near a given place, one from which the line to q meets no two planes of a cell at once
 
 pub record Start (t : Tables) (n : ℕ) (q x₀ x : Place) : Type 0 where
   pub generic : Generic t n q x
@@ -153,7 +153,7 @@ module _ {X Y Z pc cc np n : ℕ} {t : Tables} (M : IsMesh X Y Z pc cc np n t) w
         go : (x : Place) × Start t n q x₀ x → Walks t n q (λ p. Unit {0}) c₁ c₂
         go (x, S) = walk-from M R q box (λ p. Unit {0}) (λ m p k h w. tt) x tt (S .generic) c₁ c₂ l₁ l₂ (S .near c₁ l₁ i₁) (S .near c₂ l₂ i₂)
 
-    -- W2: THE STRAIGHT WALK
+    -- F4: THE STRAIGHT WALK
     pub straight-walk : (q : Place) → InBoxAt X Y Z q → (c : ℕ) → c < n → Reached t n q c
     straight-walk q box c l = go (two-walks q box (middle t c) c c l l (middle-inside c l) (middle-inside c l))
       where

@@ -1,17 +1,16 @@
--- The box's volume counts the cells at one flag of its corner (X, Y, Z): the sum of the volumes of the `label`s is 1.
+-- F6: labels 'at the corner (X, Y, Z)', 'else on the edge y = Y, z = Z', 'else on the wall z = Z', 'else', as positions, have volumes that add up to 1.
 use Prim.Native.Nat.{ℕ, zero, suc, _+_, _*_, _≤_}
 use mathlib.Core.Bool.{Bool, true, false, cond}
 use mathlib.Core.Logic.{_≢_, _⊎_, inl, inr}
-use mathlib.Core.Path.{_≡_, refl, sym, ap, _∙_}
+use mathlib.Core.Path.{_≡_, refl, sym, ap, ap₂, _∙_}
 use mathlib.Core.List.{List, [], _∷_}
 use native.Mathlib.Omega.{arith}
 use borrow.Author.Tests.{eqb-true, eq-eqb, ne-eqb}
 use lib.Dec.{eqb}
-use lib.IntN.{ℤ, pos, negsuc, negℤ, _+ℤ_, _-ℤ_, _*ℤ_, +ℤ-idl}
-use lib.Signed.{_<ℤ_}
+use lib.IntN.{ℤ, pos, negsuc, negℤ, _+ℤ_, _-ℤ_, _*ℤ_, +ℤ-idl, +ℤ-idr, *ℤ-zero}
 use Rattle.arith.specs.Table.{sum}
 use Rattle.arith.proofs.Integers.{eq-of-sub}
-use Rattle.arith.proofs.Order.{arithℤ, cancel-zero, *-pos}
+use Rattle.arith.proofs.Order.{arithℤ, pos-pos, cancel-zero, *-pos}
 use Rattle.arith.proofs.Flags.{split}
 use Rattle.arith.proofs.Sums.{sum-cong, sum-zero, sum-add, sum-neg, sum-times}
 use Rattle.arith.proofs.Ring.{Expr, var, con, _⊕_, _⊖_, _⊗_, neg, ring}
@@ -42,6 +41,10 @@ top-at S v e = rw (eq-eqb v S e)
 pub top-off : (S v : ℕ) → v ≢ S → top S v ≡ 0
 unfolding top
 top-off S v d = rw (ne-eqb v S d)
+
+-- the label of a position: at the corner (X, Y, Z), on the edge y = Y, z = Z, on the wall z = Z, or none of these
+abbrev pub labelOf : ℕ → ℕ → ℕ → Position → Position
+labelOf X Y Z p = record { x = top X (p .x) * top Y (p .y) * top Z (p .z); y = top Y (p .y) * top Z (p .z); z = top Z (p .z) }
 
 rest-at : (S v : ℕ) → v ≡ S → rest S v ≡ 0
 unfolding rest
@@ -84,8 +87,17 @@ abbrev _·_ : Col → Col → Col
 _·_ f g k = f k ⊗ g k
 
 infixl 70 _·_
+-- m times positions whose third coordinate is 1: they have no volume
+data Coplanar : Type 0 where
+  _times_and_ : ℤ → (ℕ → ℕ) → (ℕ → ℕ) → Coplanar
+
+infix 80 _times_and_
+abbrev coplanar : List Coplanar → List Part
+coplanar [] = []
+coplanar (m times f and g ∷ l) = m of at₃ f g (λ v. 1) ∷ coplanar l
+
 abbrev pushParts : (ℕ → ℕ) → (ℕ → ℕ) → (ℕ → ℕ) → List Part
-pushParts h u g = pos 1 of at₃ h u g ∷ negsuc 0 of at₃ h (λ v. u v * g v) (λ v. 1) ∷ pos 2 of at₃ (λ v. h v * u v) g (λ v. 1) ∷ []
+pushParts h u g = pos 1 of at₃ h u g ∷ coplanar (negsuc 0 times h and (λ v. u v * g v) ∷ pos 2 times (λ v. h v * u v) and g ∷ [])
 
 abbrev pushₑ : Col → Col → Col → Expr
 pushₑ h u g = termₑ (pos 1) h u g (termₑ (negsuc 0) h (u · g) oneₑ (termₑ (pos 2) (h · u) g oneₑ (con (pos 0))))
@@ -105,13 +117,25 @@ pushed-g : (h₀ h₁ h₂ u₀ u₁ u₂ g : ℕ) → pushed h₀ h₁ h₂ u�
 pushed-g h₀ h₁ h₂ u₀ u₁ u₂ g =
     ring (pushₑ (λ k. var k) (λ k. var (3 + k)) (λ k. var 6)) (con (pos 0)) tt (pos h₀ ∷ pos h₁ ∷ pos h₂ ∷ pos u₀ ∷ pos u₁ ∷ pos u₂ ∷ pos g ∷ [])
 
+abbrev labelRest : (ℕ → ℕ) → (ℕ → ℕ) → (ℕ → ℕ) → List Coplanar
+labelRest A B C =
+    pos 1 times AB and AC ∷ negsuc 0 times AB and BC ∷ pos 1 times AC and BC ∷ pos 2 times B and ABC ∷ negsuc 1 times C and ABC ∷
+    negsuc 0 times AB and ABC ∷ pos 1 times AC and ABC ∷ pos 3 times BC and ABC ∷ []
+  where
+    AB : ℕ → ℕ
+    AB v = A v * B v
+
+    AC : ℕ → ℕ
+    AC v = A v * C v
+
+    BC : ℕ → ℕ
+    BC v = B v * C v
+
+    ABC : ℕ → ℕ
+    ABC v = A v * B v * C v
+
 abbrev labelParts : (ℕ → ℕ) → (ℕ → ℕ) → (ℕ → ℕ) → List Part
-labelParts A B C =
-    pos 6 of at₃ (λ v. A v * B v * C v) (λ v. B v * C v) C ∷ negsuc 0 of at₃ A B C ∷
-    pos 1 of at₃ (λ v. A v * B v) (λ v. A v * C v) (λ v. 1) ∷ negsuc 0 of at₃ (λ v. A v * B v) (λ v. B v * C v) (λ v. 1) ∷
-    pos 1 of at₃ (λ v. A v * C v) (λ v. B v * C v) (λ v. 1) ∷ pos 2 of at₃ B (λ v. A v * B v * C v) (λ v. 1) ∷
-    negsuc 1 of at₃ C (λ v. A v * B v * C v) (λ v. 1) ∷ negsuc 0 of at₃ (λ v. A v * B v) (λ v. A v * B v * C v) (λ v. 1) ∷
-    pos 1 of at₃ (λ v. A v * C v) (λ v. A v * B v * C v) (λ v. 1) ∷ pos 3 of at₃ (λ v. B v * C v) (λ v. A v * B v * C v) (λ v. 1) ∷ []
+labelParts A B C = pos 6 of at₃ (λ v. A v * B v * C v) (λ v. B v * C v) C ∷ negsuc 0 of at₃ A B C ∷ coplanar (labelRest A B C)
 
 abbrev labelₑ : Col → Col → Col → Expr
 labelₑ A B C =
@@ -187,6 +211,10 @@ module _ (t : Tables) (n : ℕ) where
   unfolding sumOf
   sum-flat f g = sum-zero n (λ c. volume (cornersBy t (at₃ f g (λ v. 1)) c)) (λ c l. vol-flat (λ k. f (corner t c k)) (λ k. g (corner t c k)))
 
+  coplanar-sums : (l : List Coplanar) → sumsOf t n (coplanar l) ≡ pos 0
+  coplanar-sums [] = refl
+  coplanar-sums (m times f and g ∷ l) = ap₂ (λ u v. m *ℤ u +ℤ v) (sum-flat f g) (coplanar-sums l) ∙ (+ℤ-idr (m *ℤ pos 0) ∙ *ℤ-zero m)
+
   sum-x : (h g u w : ℕ → ℕ) → sumOf t n (at₃ (λ v. h v + g v) u w) ≡ sumOf t n (at₃ h u w) +ℤ sumOf t n (at₃ g u w)
   unfolding sumOf
   sum-x h g u w =
@@ -232,10 +260,11 @@ module _ {X Y Z pc cc np n : ℕ} {t : Tables} (M : IsMesh X Y Z pc cc np n t) (
   push : (h u g : ℕ → ℕ) → ((w : Wall) (a b c : ℕ) → On M R w a → On M R w b → On M R w c → triples (pushParts h u g) a b c ≡ pos 0) → sumOf t n (at₃ h u g) ≡ pos 0
   push h u g flat =
       combine (var 0) (con (pos 0))
-      (hyp (con (pos 1)) (con (pos 1) ⊗ var 0 ⊕ (con (negsuc 0) ⊗ var 1 ⊕ (con (pos 2) ⊗ var 2 ⊕ con (pos 0)))) (con (pos 0)) ∷
-      hyp (con (pos 1)) (var 1) (con (pos 0)) ∷ hyp (con (negsuc 1)) (var 2) (con (pos 0)) ∷ [])
-      tt (sumOf t n (at₃ h u g) ∷ sumOf t n (at₃ h (λ v. u v * g v) (λ v. 1)) ∷ sumOf t n (at₃ (λ v. h v * u v) g (λ v. 1)) ∷ [])
-      (closed M R (pushParts h u g) flat, (sum-flat t n h (λ v. u v * g v), (sum-flat t n (λ v. h v * u v) g, tt)))
+      (hyp (con (pos 1)) (con (pos 1) ⊗ var 0 ⊕ var 1) (con (pos 0)) ∷ hyp (con (negsuc 0)) (var 1) (con (pos 0)) ∷ []) tt
+      (sumOf t n (at₃ h u g) ∷ sumsOf t n (coplanar l) ∷ []) (closed M R (pushParts h u g) flat, (coplanar-sums t n l, tt))
+    where
+      l : List Coplanar
+      l = negsuc 0 times h and (λ v. u v * g v) ∷ pos 2 times (λ v. h v * u v) and g ∷ []
 
   abbrev px : ℕ → ℕ
   px v = point t v .x
@@ -302,9 +331,8 @@ module _ {X Y Z pc cc np n : ℕ} {t : Tables} (M : IsMesh X Y Z pc cc np n t) (
       (ap (λ z. z +ℤ sumOf t n (at₃ (λ v. X * tx v) (λ v. Y * ty v) (λ v. Z * tz v))) push-z ∙ (+ℤ-idl _ ∙
       sum-scale t n X Y Z tx ty tz)))))))))))
 
-  -- the label of a point: in the corner (X, Y, Z), on the edge y = Y, z = Z, on the wall z = Z, or none of these
-  abbrev pub label : ℕ → Position
-  label = at₃ (λ v. tx v * ty v * tz v) (λ v. ty v * tz v) tz
+  abbrev label : ℕ → Position
+  label v = labelOf X Y Z (point t v)
 
   label-closed : sumsOf t n (labelParts tx ty tz) ≡ pos 0
   label-closed = closed M R (labelParts tx ty tz) flat
@@ -329,28 +357,8 @@ module _ {X Y Z pc cc np n : ℕ} {t : Tables} (M : IsMesh X Y Z pc cc np n t) (
   six-labels : pos 6 *ℤ sumOf t n label ≡ sumOf t n (at₃ tx ty tz)
   six-labels =
       combine (con (pos 6) ⊗ var 0) (var 1)
-      (hyp (con (pos 1)) (con (pos 6) ⊗ var 0 ⊕ (con (negsuc 0) ⊗ var 1 ⊕ (con (pos 1) ⊗ var 2 ⊕ (con (negsuc 0) ⊗ var 3 ⊕ (con (pos 1) ⊗ var 4 ⊕ (con (pos 2) ⊗ var 5 ⊕ (con (negsuc 1) ⊗ var 6 ⊕ (con (negsuc 0) ⊗ var 7 ⊕ (con (pos 1) ⊗ var 8 ⊕ (con (pos 3) ⊗ var 9 ⊕ con (pos 0))))))))))) (con (pos 0)) ∷
-      hyp (con (negsuc 0)) (var 2) (con (pos 0)) ∷ hyp (con (pos 1)) (var 3) (con (pos 0)) ∷ hyp (con (negsuc 0)) (var 4) (con (pos 0)) ∷ hyp (con (negsuc 1)) (var 5) (con (pos 0)) ∷
-      hyp (con (pos 2)) (var 6) (con (pos 0)) ∷ hyp (con (pos 1)) (var 7) (con (pos 0)) ∷ hyp (con (negsuc 0)) (var 8) (con (pos 0)) ∷ hyp (con (negsuc 2)) (var 9) (con (pos 0)) ∷ [])
-      tt
-      (sumOf t n label ∷ sumOf t n (at₃ tx ty tz) ∷ sumOf t n (at₃ ab ac o) ∷ sumOf t n (at₃ ab bc o) ∷ sumOf t n (at₃ ac bc o) ∷ sumOf t n (at₃ ty abc o) ∷ sumOf t n (at₃ tz abc o) ∷
-      sumOf t n (at₃ ab abc o) ∷ sumOf t n (at₃ ac abc o) ∷ sumOf t n (at₃ bc abc o) ∷ [])
-      (label-closed, (sum-flat t n ab ac, (sum-flat t n ab bc, (sum-flat t n ac bc, (sum-flat t n ty abc, (sum-flat t n tz abc, (sum-flat t n ab abc, (sum-flat t n ac abc, (sum-flat t n bc abc, tt)))))))))
-    where
-      o : ℕ → ℕ
-      o v = 1
-
-      ab : ℕ → ℕ
-      ab v = tx v * ty v
-
-      ac : ℕ → ℕ
-      ac v = tx v * tz v
-
-      bc : ℕ → ℕ
-      bc v = ty v * tz v
-
-      abc : ℕ → ℕ
-      abc v = tx v * ty v * tz v
+      (hyp (con (pos 1)) (con (pos 6) ⊗ var 0 ⊕ (con (negsuc 0) ⊗ var 1 ⊕ var 2)) (con (pos 0)) ∷ hyp (con (negsuc 0)) (var 2) (con (pos 0)) ∷ []) tt
+      (sumOf t n label ∷ sumOf t n (at₃ tx ty tz) ∷ sumsOf t n (coplanar (labelRest tx ty tz)) ∷ []) (label-closed, (coplanar-sums t n (labelRest tx ty tz), tt))
 
   volumes-are : sumOf t n (at₃ px py pz) ≡ pos 6 *ℤ pos X *ℤ pos Y *ℤ pos Z
   unfolding sumOf cornerAt cellVolume
@@ -361,11 +369,8 @@ module _ {X Y Z pc cc np n : ℕ} {t : Tables} (M : IsMesh X Y Z pc cc np n t) (
   labels-one =
       eq-of-sub (sumOf t n label) (pos 1)
       (cancel-zero {a = pos 6 *ℤ pos X *ℤ pos Y *ℤ pos Z} (sumOf t n label -ℤ pos 1)
-      (*-pos (*-pos (*-pos {a = pos 6} {b = pos X} (omega arithℤ) (above X (M .sideX .low))) (above Y (M .sideY .low))) (above Z (M .sideZ .low)))
+      (*-pos (*-pos (*-pos {a = pos 6} {b = pos X} (omega arithℤ) (pos-pos X (M .sideX .low))) (pos-pos Y (M .sideY .low))) (pos-pos Z (M .sideZ .low)))
       (combine (con (pos 6) ⊗ var 2 ⊗ var 3 ⊗ var 4 ⊗ (var 0 ⊖ con (pos 1))) (con (pos 0))
       (hyp (var 2 ⊗ var 3 ⊗ var 4) (con (pos 6) ⊗ var 0) (var 1) ∷ hyp (con (negsuc 0)) (con (pos 6) ⊗ var 2 ⊗ var 3 ⊗ var 4) (var 1 ⊗ (var 2 ⊗ var 3 ⊗ var 4)) ∷ [])
       tt (sumOf t n label ∷ sumOf t n (at₃ tx ty tz) ∷ pos X ∷ pos Y ∷ pos Z ∷ [])
       (six-labels, (sym volumes-are ∙ corners-sum, tt))))
-    where
-      above : (s : ℕ) → 1 ≤ s → pos 0 <ℤ pos s
-      above s h = omega arithℤ

@@ -1,4 +1,4 @@
--- The plane of a face as a linear form of a place, that is of the row (x, y, z, w).
+-- F1: the plane of a face as a linear form of a place, that is of the row (x, y, z, w).
 use Prim.Native.Nat.{ℕ, _+_, _*_, _<_}
 use mathlib.Core.Bool.{cond}
 use mathlib.Core.Logic.{_≢_}
@@ -140,7 +140,7 @@ volume-whole s = ring (atₑ (p₃ 0) (p₃ 1) (p₃ 2) (p₃ 3)) (sixₑ (p₃ 
 abbrev ReplacedWhole : (ℕ → Position) → Position → ℕ → Type 0
 ReplacedWhole s p i = rowVolume (replacedRow (λ k. whole (s k)) i (whole p)) ≡ volume (replaced s i p)
 
-replaced-whole : (s : ℕ → Position) (p : Position) (i : ℕ) → i < 4 → rowVolume (replacedRow (λ k. whole (s k)) i (whole p)) ≡ volume (replaced s i p)
+replaced-whole : (s : ℕ → Position) (p : Position) (i : ℕ) → i < 4 → ReplacedWhole s p i
 unfolding rowVolume volume volume6
 replaced-whole s p =
     below-four (ReplacedWhole s p)

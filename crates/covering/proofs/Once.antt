@@ -1,4 +1,4 @@
--- Nowhere twice: no place lies strictly inside two cells.
+-- F7, and nowhere twice: no place lies strictly inside two cells.
 use Prim.Native.Nat.{ℕ, _+_, _*_, _≤_, _<_}
 use mathlib.Core.Bool.{Bool, true, false}
 use mathlib.Core.Logic.{_≢_, _⊎_, inl, inr}
@@ -10,7 +10,7 @@ use native.Mathlib.Nat.{mul-le-mul-left}
 use lib.IntN.{ℤ, pos, negℤ, _+ℤ_, _-ℤ_, _*ℤ_, negℤ-negℤ}
 use lib.Signed.{_<ℤ_, _≤ℤ_}
 use Rattle.arith.specs.Table.{sum}
-use Rattle.arith.proofs.Order.{arithℤ, parts-sub, ≡→≤, <-irrefl, <-≤-trans, *-nonneg, *-nonpos-r, *-nonpos, cancel-nonneg}
+use Rattle.arith.proofs.Order.{arithℤ, parts-sub, ≡→≤, <-irrefl, <-≤-trans, *-nonneg, *-nonpos-r, *-nonpos-nonpos, cancel-nonneg}
 use Rattle.arith.proofs.Sums.{sum-nonneg, sum-ge-two}
 use Rattle.arith.proofs.Tables.{find}
 use Rattle.arith.proofs.Determinant.{odd, signed}
@@ -26,7 +26,7 @@ use Rattle.covering.proofs.Linear.{placed, rowVolume, replacedRow, Hold
 use Rattle.covering.proofs.Walk.{Walks}
 use Rattle.covering.proofs.Cover.{two-walks}
 use Rattle.covering.proofs.Closed.{sumOf}
-use Rattle.covering.proofs.Labels.{top, volₑ, col, cols, top-at, top-off, labels-one}
+use Rattle.covering.proofs.Labels.{labelOf, top, volₑ, col, cols, top-at, top-off, labels-one}
 
 -- ---- a form with whole coefficients
 
@@ -66,38 +66,34 @@ module _ {X Y Z pc cc np n : ℕ} {t : Tables} (M : IsMesh X Y Z pc cc np n t) w
 
 -- ---- the four kinds of points
 
-pub data Kind (X Y Z : ℕ) (p : Position) : Type 0 where
-  corner-point : p .x ≡ X → p .y ≡ Y → p .z ≡ Z → Kind X Y Z p
-  edge-point : p .x ≢ X → p .y ≡ Y → p .z ≡ Z → Kind X Y Z p
-  wall-point : p .y ≢ Y → p .z ≡ Z → Kind X Y Z p
+record IsCorner (X Y Z : ℕ) (p : Position) : Type 0 where
+  ix : p .x ≡ X
+  iy : p .y ≡ Y
+  iz : p .z ≡ Z
+
+record IsEdge (X Y Z : ℕ) (p : Position) : Type 0 where
+  ix : p .x ≢ X
+  iy : p .y ≡ Y
+  iz : p .z ≡ Z
+
+record IsWall (X Y Z : ℕ) (p : Position) : Type 0 where
+  iy : p .y ≢ Y
+  iz : p .z ≡ Z
+
+data Kind (X Y Z : ℕ) (p : Position) : Type 0 where
+  corner-point : IsCorner X Y Z p → Kind X Y Z p
+  edge-point : IsEdge X Y Z p → Kind X Y Z p
+  wall-point : IsWall X Y Z p → Kind X Y Z p
   other-point : p .z ≢ Z → Kind X Y Z p
 
 kind : (X Y Z : ℕ) (p : Position) → Kind X Y Z p
 kind X Y Z p = go (ℕ-discrete (p .x) X) (ℕ-discrete (p .y) Y) (ℕ-discrete (p .z) Z)
   where
     go : Dec (p .x ≡ X) → Dec (p .y ≡ Y) → Dec (p .z ≡ Z) → Kind X Y Z p
-    go (yes a) (yes b) (yes c) = corner-point a b c
-    go (no a) (yes b) (yes c) = edge-point a b c
-    go a (no b) (yes c) = wall-point b c
+    go (yes a) (yes b) (yes c) = corner-point record { ix = a; iy = b; iz = c }
+    go (no a) (yes b) (yes c) = edge-point record { ix = a; iy = b; iz = c }
+    go a (no b) (yes c) = wall-point record { iy = b; iz = c }
     go a b (no c) = other-point c
-
-pub record IsCorner (X Y Z : ℕ) (p : Position) : Type 0 where
-  pub ix : p .x ≡ X
-  pub iy : p .y ≡ Y
-  pub iz : p .z ≡ Z
-
-pub record IsEdge (X Y Z : ℕ) (p : Position) : Type 0 where
-  pub ix : p .x ≢ X
-  pub iy : p .y ≡ Y
-  pub iz : p .z ≡ Z
-
-pub record IsWall (X Y Z : ℕ) (p : Position) : Type 0 where
-  pub iy : p .y ≢ Y
-  pub iz : p .z ≡ Z
-
--- the label of a point, by its coordinates
-abbrev labelOf : ℕ → ℕ → ℕ → Position → Position
-labelOf X Y Z p = record { x = top X (p .x) * top Y (p .y) * top Z (p .z); y = top Y (p .y) * top Z (p .z); z = top Z (p .z) }
 
 abbrev at : ℕ → ℕ → ℕ → Position
 at a b c = record { x = a * b * c; y = b * c; z = c }
@@ -152,19 +148,19 @@ module _ (s : ℕ → Position) where
       ring (volₑ (col 0) (col 1) (λ k. con (pos 1))) (con (pos 0)) tt (cols ((λ k. s k .x) ∷ (λ k. s k .y) ∷ []) [])
 
 -- four corners of four kinds
-pub record Full (X Y Z : ℕ) (s : ℕ → Position) : Type 0 where
-  pub k₀ : ℕ
-  pub k₁ : ℕ
-  pub k₂ : ℕ
-  pub k₃ : ℕ
-  pub k₀< : k₀ < 4
-  pub k₁< : k₁ < 4
-  pub k₂< : k₂ < 4
-  pub k₃< : k₃ < 4
-  pub is₀ : IsCorner X Y Z (s k₀)
-  pub is₁ : IsEdge X Y Z (s k₁)
-  pub is₂ : IsWall X Y Z (s k₂)
-  pub is₃ : s k₃ .z ≢ Z
+record Full (X Y Z : ℕ) (s : ℕ → Position) : Type 0 where
+  k₀ : ℕ
+  k₁ : ℕ
+  k₂ : ℕ
+  k₃ : ℕ
+  k₀< : k₀ < 4
+  k₁< : k₁ < 4
+  k₂< : k₂ < 4
+  k₃< : k₃ < 4
+  is₀ : IsCorner X Y Z (s k₀)
+  is₁ : IsEdge X Y Z (s k₁)
+  is₂ : IsWall X Y Z (s k₂)
+  is₃ : s k₃ .z ≢ Z
 
 staircase : (X Y Z x₁ x₂ y₂ x₃ y₃ z₃ : ℕ) →
     volume6 record { x = X; y = Y; z = Z } record { x = x₁; y = Y; z = Z } record { x = x₂; y = y₂; z = Z } record { x = x₃; y = y₃; z = z₃ } ≡
@@ -182,7 +178,7 @@ module _ (X Y Z : ℕ) (s : ℕ → Position) (in-box : (k : ℕ) → k < 4 → 
   steps : volume6 (s (F .k₀)) (s (F .k₁)) (s (F .k₂)) (s (F .k₃)) ≤ℤ pos 0
   steps =
       subst (λ z. z ≤ℤ pos 0) (sym (sym′ ∙ staircase X Y Z (s (F .k₁) .x) (s (F .k₂) .x) (s (F .k₂) .y) (s (F .k₃) .x) (s (F .k₃) .y) (s (F .k₃) .z)))
-      (*-nonpos-r (*-nonpos (low (in-box (F .k₁) (F .k₁<) .x≤)) (low (in-box (F .k₂) (F .k₂<) .y≤))) (low (in-box (F .k₃) (F .k₃<) .z≤)))
+      (*-nonpos-r (*-nonpos-nonpos (low (in-box (F .k₁) (F .k₁<) .x≤)) (low (in-box (F .k₂) (F .k₂<) .y≤))) (low (in-box (F .k₃) (F .k₃<) .z≤)))
     where
       sym′ : volume6 (s (F .k₀)) (s (F .k₁)) (s (F .k₂)) (s (F .k₃)) ≡
           volume6 record { x = X; y = Y; z = Z } record { x = s (F .k₁) .x; y = Y; z = Z } record { x = s (F .k₂) .x; y = s (F .k₂) .y; z = Z } (s (F .k₃))
@@ -223,27 +219,27 @@ module _ (X Y Z : ℕ) where
   corner? p = go (kind X Y Z p)
     where
       go : Kind X Y Z p → IsCorner X Y Z p ⊎ (IsCorner X Y Z p → ⊥)
-      go (corner-point a b c) = inl record { ix = a; iy = b; iz = c }
-      go (edge-point a b c) = inr (λ i. a (i .ix))
-      go (wall-point b c) = inr (λ i. b (i .iy))
+      go (corner-point a) = inl a
+      go (edge-point a) = inr (λ i. a .ix (i .ix))
+      go (wall-point a) = inr (λ i. a .iy (i .iy))
       go (other-point c) = inr (λ i. c (i .iz))
 
   edge? : (p : Position) → IsEdge X Y Z p ⊎ (IsEdge X Y Z p → ⊥)
   edge? p = go (kind X Y Z p)
     where
       go : Kind X Y Z p → IsEdge X Y Z p ⊎ (IsEdge X Y Z p → ⊥)
-      go (corner-point a b c) = inr (λ i. i .ix a)
-      go (edge-point a b c) = inl record { ix = a; iy = b; iz = c }
-      go (wall-point b c) = inr (λ i. b (i .iy))
+      go (corner-point a) = inr (λ i. i .ix (a .ix))
+      go (edge-point a) = inl a
+      go (wall-point a) = inr (λ i. a .iy (i .iy))
       go (other-point c) = inr (λ i. c (i .iz))
 
   wall? : (p : Position) → IsWall X Y Z p ⊎ (IsWall X Y Z p → ⊥)
   wall? p = go (kind X Y Z p)
     where
       go : Kind X Y Z p → IsWall X Y Z p ⊎ (IsWall X Y Z p → ⊥)
-      go (corner-point a b c) = inr (λ i. i .iy b)
-      go (edge-point a b c) = inr (λ i. i .iy b)
-      go (wall-point b c) = inl record { iy = b; iz = c }
+      go (corner-point a) = inr (λ i. i .iy (a .iy))
+      go (edge-point a) = inr (λ i. i .iy (a .iy))
+      go (wall-point a) = inl a
       go (other-point c) = inr (λ i. c (i .iz))
 
   other? : (p : Position) → (p .z ≢ Z) ⊎ (p .z ≡ Z)
@@ -288,9 +284,9 @@ module _ (X Y Z : ℕ) where
   missing-zero s (no-corner n) = no-x (λ k. labelOf X Y Z (s k)) (λ k h. go k h (kind X Y Z (s k)))
     where
       go : (k : ℕ) → k < 4 → Kind X Y Z (s k) → labelOf X Y Z (s k) .x ≡ 0
-      go k h (corner-point a b c) = absurd (n k h record { ix = a; iy = b; iz = c })
-      go k h (edge-point a b c) = ap (λ (p : Position). p .x) (label-edge X Y Z (s k) record { ix = a; iy = b; iz = c })
-      go k h (wall-point b c) = ap (λ (p : Position). p .x) (label-wall X Y Z (s k) record { iy = b; iz = c })
+      go k h (corner-point a) = absurd (n k h a)
+      go k h (edge-point a) = ap (λ (p : Position). p .x) (label-edge X Y Z (s k) a)
+      go k h (wall-point a) = ap (λ (p : Position). p .x) (label-wall X Y Z (s k) a)
       go k h (other-point c) = ap (λ (p : Position). p .x) (label-other X Y Z (s k) c)
   missing-zero s (no-edge n) = same-xy (λ k. labelOf X Y Z (s k)) (λ k h. go k h (kind X Y Z (s k)))
     where
@@ -298,9 +294,9 @@ module _ (X Y Z : ℕ) where
       same {p} {r} e q = ap (λ (p : Position). p .x) e ∙ (q ∙ ap (λ (p : Position). p .y) (sym e))
 
       go : (k : ℕ) → k < 4 → Kind X Y Z (s k) → labelOf X Y Z (s k) .x ≡ labelOf X Y Z (s k) .y
-      go k h (corner-point a b c) = same (label-corner X Y Z (s k) record { ix = a; iy = b; iz = c }) refl
-      go k h (edge-point a b c) = absurd (n k h record { ix = a; iy = b; iz = c })
-      go k h (wall-point b c) = same (label-wall X Y Z (s k) record { iy = b; iz = c }) refl
+      go k h (corner-point a) = same (label-corner X Y Z (s k) a) refl
+      go k h (edge-point a) = absurd (n k h a)
+      go k h (wall-point a) = same (label-wall X Y Z (s k) a) refl
       go k h (other-point c) = same (label-other X Y Z (s k) c) refl
   missing-zero s (no-wall n) = same-yz (λ k. labelOf X Y Z (s k)) (λ k h. go k h (kind X Y Z (s k)))
     where
@@ -308,9 +304,9 @@ module _ (X Y Z : ℕ) where
       same {p} {r} e q = ap (λ (p : Position). p .y) e ∙ (q ∙ ap (λ (p : Position). p .z) (sym e))
 
       go : (k : ℕ) → k < 4 → Kind X Y Z (s k) → labelOf X Y Z (s k) .y ≡ labelOf X Y Z (s k) .z
-      go k h (corner-point a b c) = same (label-corner X Y Z (s k) record { ix = a; iy = b; iz = c }) refl
-      go k h (edge-point a b c) = same (label-edge X Y Z (s k) record { ix = a; iy = b; iz = c }) refl
-      go k h (wall-point b c) = absurd (n k h record { iy = b; iz = c })
+      go k h (corner-point a) = same (label-corner X Y Z (s k) a) refl
+      go k h (edge-point a) = same (label-edge X Y Z (s k) a) refl
+      go k h (wall-point a) = absurd (n k h a)
       go k h (other-point c) = same (label-other X Y Z (s k) c) refl
   missing-zero s (no-other n) = one-z (λ k. labelOf X Y Z (s k)) (λ k h. top-at Z (s k .z) (n k h))
 
@@ -337,9 +333,9 @@ module _ {X Y Z pc cc np n : ℕ} {t : Tables} (M : IsMesh X Y Z pc cc np n t) (
     not-missing (no-corner no-c) = end (convex M c c< (target X Y Z a b d) held 0 0 0 (X + Y + Z) 1 1 1 1 (λ k h. each (s k) (in-box k h) (no-c k h) (kind X Y Z (s k))))
       where
         each : (p : Position) → InBox X Y Z p → (IsCorner X Y Z p → ⊥) → Kind X Y Z p → nlin 1 1 1 1 (whole p) ≤ nlin 0 0 0 (X + Y + Z) (whole p)
-        each p i n (corner-point u v w) = absurd (n record { ix = u; iy = v; iz = w })
-        each p i n (edge-point u v w) = omega (arith, i)
-        each p i n (wall-point v w) = omega (arith, i)
+        each p i n (corner-point u) = absurd (n u)
+        each p i n (edge-point u) = omega (arith, i)
+        each p i n (wall-point u) = omega (arith, i)
         each p i n (other-point w) = omega (arith, i)
 
         end : nlin 1 1 1 1 (target X Y Z a b d) ≤ nlin 0 0 0 (X + Y + Z) (target X Y Z a b d) → ⊥
@@ -347,9 +343,9 @@ module _ {X Y Z pc cc np n : ℕ} {t : Tables} (M : IsMesh X Y Z pc cc np n t) (
     not-missing (no-edge no-e) = end (convex M c c< (target X Y Z a b d) held 1 0 0 (X * (Y + Z)) 0 X X X (λ k h. each (s k) (in-box k h) (no-e k h) (kind X Y Z (s k))))
       where
         each : (p : Position) → InBox X Y Z p → (IsEdge X Y Z p → ⊥) → Kind X Y Z p → nlin 0 X X X (whole p) ≤ nlin 1 0 0 (X * (Y + Z)) (whole p)
-        each p i n (corner-point u v w) = omega (arith, ap (λ m. X * m) v, ap (λ m. X * m) w)
-        each p i n (edge-point u v w) = absurd (n record { ix = u; iy = v; iz = w })
-        each p i n (wall-point v w) = let l : p .y + 1 ≤ Y = omega (arith, i) in omega (arith, ap (λ m. X * m) w, mul-le-mul-left X l)
+        each p i n (corner-point u) = omega (arith, ap (λ m. X * m) (u .iy), ap (λ m. X * m) (u .iz))
+        each p i n (edge-point u) = absurd (n u)
+        each p i n (wall-point u) = let l : p .y + 1 ≤ Y = omega (arith, i) in omega (arith, ap (λ m. X * m) (u .iz), mul-le-mul-left X l)
         each p i n (other-point w) = let l : p .z + 1 ≤ Z = omega (arith, i) in omega (arith, mul-le-mul-left X l, mul-le-mul-left X (i .y≤))
 
         end : nlin 0 X X X (target X Y Z a b d) ≤ nlin 1 0 0 (X * (Y + Z)) (target X Y Z a b d) → ⊥
@@ -357,9 +353,9 @@ module _ {X Y Z pc cc np n : ℕ} {t : Tables} (M : IsMesh X Y Z pc cc np n t) (
     not-missing (no-wall no-w) = end (convex M c c< (target X Y Z a b d) held 0 1 0 (Y * Z) 0 0 Y Y (λ k h. each (s k) (in-box k h) (no-w k h) (kind X Y Z (s k))))
       where
         each : (p : Position) → InBox X Y Z p → (IsWall X Y Z p → ⊥) → Kind X Y Z p → nlin 0 0 Y Y (whole p) ≤ nlin 0 1 0 (Y * Z) (whole p)
-        each p i n (corner-point u v w) = omega (arith, v, ap (λ m. Y * m) w)
-        each p i n (edge-point u v w) = omega (arith, v, ap (λ m. Y * m) w)
-        each p i n (wall-point v w) = absurd (n record { iy = v; iz = w })
+        each p i n (corner-point u) = omega (arith, u .iy, ap (λ m. Y * m) (u .iz))
+        each p i n (edge-point u) = omega (arith, u .iy, ap (λ m. Y * m) (u .iz))
+        each p i n (wall-point u) = absurd (n u)
         each p i n (other-point w) = let l : p .z + 1 ≤ Z = omega (arith, i) in omega (arith, mul-le-mul-left Y l)
 
         end : nlin 0 0 Y Y (target X Y Z a b d) ≤ nlin 0 1 0 (Y * Z) (target X Y Z a b d) → ⊥

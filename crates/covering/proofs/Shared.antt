@@ -19,11 +19,11 @@ use Rattle.mesh.specs.Mesh.{OnFace, IsMesh}
 use Rattle.mesh.proofs.Room.{Room}
 use Rattle.mesh.proofs.Faces.{few, mated}
 use Rattle.mesh.proofs.FaceNumbers.{opposite<, face-cell, face-opposite, face-eq}
-use Rattle.covering.specs.Place.{Place, InBoxAt}
+use Rattle.covering.specs.Place.{Place, InBoxAt, sideAt}
 use Rattle.covering.specs.Holders.{Chain, here, step, FaceHolds}
 use Rattle.covering.proofs.Linear.{placed, form, HoldsForm, InsideForm, mix, form-mix, form-whole, form-between, mate-opposite-form}
 use Rattle.covering.proofs.Avoid.{overAll, over-each, outweighs, outweighs-neg}
-use Rattle.covering.proofs.Walk.{Visited, Leaves, Walks, walk-from}
+use Rattle.covering.proofs.Walk.{Visited, Crosses, Walks, walk-from}
 use Rattle.covering.proofs.Cover.{Start, start, middle, middle-inside, form-own, form-off}
 use Rattle.covering.proofs.Once.{once}
 use Rattle.covering.proofs.Parts.{whole-in-box, holds-form, plane-form}
@@ -109,25 +109,28 @@ module _ {X Y Z pc cc np n : ℕ} {t : Tables} (M : IsMesh X Y Z pc cc np n t) (
         up {z} h = omega (arithℤ, parts-neg z)
 
     -- the first cell of a walk
-    first-visited : {r : Place} {c d : ℕ} → Chain t n (Leaves t r Way) c d → Visited t Way d → Visited t Way c
+    first-visited : {r : Place} {c d : ℕ} → Chain t n (Crosses t r Way) c d → Visited t Way d → Visited t Way c
     first-visited here s = s
     first-visited (step k h x u v) s = x .from
 
     visited-holds : (c : ℕ) → c < n → Visited t Way c → HoldsForm t q c
     visited-holds c l s = way-holds (s .place) c l (s .way) (s .inside)
 
-    linked : {r : Place} {c d : ℕ} → c < n → Chain t n (Leaves t r Way) c d → Visited t Way d → Chain t n (FaceHolds t q) c d
+    linked : {r : Place} {c d : ℕ} → c < n → Chain t n (Crosses t r Way) c d → Visited t Way d → Chain t n (FaceHolds t q) c d
     linked l here s = here
     linked l (step {c} k h x u v) s =
         step k h
         record {
           cell = holds-form t q (box .w≥) c .1 own;
-          plane = plane-form t q (box .w≥) (4 * c + k) .1 (face-holds c k l h u own (visited-holds (across t (4 * c + k)) u (first-visited v s)));
+          plane = Prim.cc level;
         }
         u (linked u v s)
       where
         own : HoldsForm t q c
         own = visited-holds c l (x .from)
+
+        level : sideAt t q (4 * c + k) ≡ pos 0
+        level = plane-form t q (box .w≥) (4 * c + k) .1 (face-holds c k l h u own (visited-holds (across t (4 * c + k)) u (first-visited v s)))
 
     -- CELLS THAT HOLD ONE PLACE ARE LINKED THROUGH FACES THAT HOLD IT
     pub around : (c d : ℕ) → c < n → d < n → HoldsForm t q c → HoldsForm t q d → Chain t n (FaceHolds t q) c d
@@ -187,24 +190,24 @@ module _ {X Y Z pc cc np n : ℕ} {t : Tables} (M : IsMesh X Y Z pc cc np n t) (
           at : OnFace t (mate t f) (corner t (cellOf f) i) → (l : ℕ) × (l < 4) × (corner t u l ≡ corner t c i)
           at o = (o .place, o .place<, ap (λ x. corner t x (o .place)) (sym far) ∙ (o .is ∙ ap (λ x. corner t x i) (face-cell c k k<)))
 
-      abbrev weight : ℕ → ℕ → ℤ
-      weight i l = side t (cornerAt t c i) (4 * u + l)
+      abbrev cornerWeight : ℕ → ℕ → ℤ
+      cornerWeight i l = side t (cornerAt t c i) (4 * u + l)
 
-      row-sum : (i : ℕ) → i < 4 → sum 4 (λ l. (form t q (4 * c + i) *ℤ weight i l) *ℤ φ (corner t u l)) ≡ (form t q (4 * c + i) *ℤ φ (corner t c i)) *ℤ cellVolume t u
+      row-sum : (i : ℕ) → i < 4 → sum 4 (λ l. (form t q (4 * c + i) *ℤ cornerWeight i l) *ℤ φ (corner t u l)) ≡ (form t q (4 * c + i) *ℤ φ (corner t c i)) *ℤ cellVolume t u
       row-sum i h = go (ℕ-discrete i k)
         where
-          go : Dec (i ≡ k) → sum 4 (λ l. (form t q (4 * c + i) *ℤ weight i l) *ℤ φ (corner t u l)) ≡ (form t q (4 * c + i) *ℤ φ (corner t c i)) *ℤ cellVolume t u
+          go : Dec (i ≡ k) → sum 4 (λ l. (form t q (4 * c + i) *ℤ cornerWeight i l) *ℤ φ (corner t u l)) ≡ (form t q (4 * c + i) *ℤ φ (corner t c i)) *ℤ cellVolume t u
           go (yes e) =
-              sum-zero 4 (λ l. (form t q (4 * c + i) *ℤ weight i l) *ℤ φ (corner t u l)) (λ l hl. none₀ (weight i l) (φ (corner t u l))) ∙ sym (none₀ (φ (corner t c i)) (cellVolume t u))
+              sum-zero 4 (λ l. (form t q (4 * c + i) *ℤ cornerWeight i l) *ℤ φ (corner t u l)) (λ l hl. none₀ (cornerWeight i l) (φ (corner t u l))) ∙ sym (none₀ (φ (corner t c i)) (cellVolume t u))
             where
               none₀ : (a b : ℤ) → (form t q (4 * c + i) *ℤ a) *ℤ b ≡ pos 0
               none₀ a b = ap (λ z. (z *ℤ a) *ℤ b) (ap (λ j. form t q (4 * c + j)) e ∙ level) ∙ ring (con (pos 0) ⊗ var 0 ⊗ var 1) (con (pos 0)) tt (a ∷ b ∷ [])
           go (no d) = at (shared i h d)
             where
               at : (l : ℕ) × (l < 4) × (corner t u l ≡ corner t c i) →
-                  sum 4 (λ l. (form t q (4 * c + i) *ℤ weight i l) *ℤ φ (corner t u l)) ≡ (form t q (4 * c + i) *ℤ φ (corner t c i)) *ℤ cellVolume t u
+                  sum 4 (λ l. (form t q (4 * c + i) *ℤ cornerWeight i l) *ℤ φ (corner t u l)) ≡ (form t q (4 * c + i) *ℤ φ (corner t c i)) *ℤ cellVolume t u
               at (m, hm, e) =
-                  sum-one 4 (λ l. (form t q (4 * c + i) *ℤ weight i l) *ℤ φ (corner t u l)) m hm
+                  sum-one 4 (λ l. (form t q (4 * c + i) *ℤ cornerWeight i l) *ℤ φ (corner t u l)) m hm
                   (λ l hl d. ap (λ z. (form t q (4 * c + i) *ℤ z) *ℤ φ (corner t u l)) (off l hl d) ∙ ring (var 0 ⊗ con (pos 0) ⊗ var 1) (con (pos 0)) tt (form t q (4 * c + i) ∷ φ (corner t u l) ∷ [])) ∙
                   (ap₂ (λ z y. (form t q (4 * c + i) *ℤ z) *ℤ y) own (ap φ e) ∙
                   ring (var 0 ⊗ var 1 ⊗ var 2) (var 0 ⊗ var 2 ⊗ var 1) tt (form t q (4 * c + i) ∷ cellVolume t u ∷ φ (corner t c i) ∷ []))
@@ -212,26 +215,26 @@ module _ {X Y Z pc cc np n : ℕ} {t : Tables} (M : IsMesh X Y Z pc cc np n t) (
                   here-is : cornerAt t c i ≡ cornerAt t u m
                   here-is = unfold cornerAt in ap (point t) (sym e)
 
-                  own : weight i m ≡ cellVolume t u
+                  own : cornerWeight i m ≡ cellVolume t u
                   own = ap (λ p. side t p (4 * u + m)) here-is ∙ (sym (form-whole t (cornerAt t u m) (4 * u + m)) ∙ form-own t u m hm)
 
-                  off : (l : ℕ) → l < 4 → l ≢ m → weight i l ≡ pos 0
+                  off : (l : ℕ) → l < 4 → l ≢ m → cornerWeight i l ≡ pos 0
                   off l hl d = ap (λ p. side t p (4 * u + l)) here-is ∙ (sym (form-whole t (cornerAt t u m) (4 * u + l)) ∙ form-off t u m l hm hl (λ x. d (sym x)))
 
       value-across : formWeighted t q φ u *ℤ cellVolume t c ≡ formWeighted t q φ c *ℤ cellVolume t u
       unfolding formWeighted
       value-across =
           sym (sum-times 4 (λ l. form t q (4 * u + l) *ℤ φ (corner t u l)) (cellVolume t c)) ∙
-          (sum-cong 4 (λ l. (form t q (4 * u + l) *ℤ φ (corner t u l)) *ℤ cellVolume t c) (λ l. sum 4 (λ i. (form t q (4 * c + i) *ℤ weight i l) *ℤ φ (corner t u l))) (λ l hl. spread l) ∙
-          (sum-swap 4 4 (λ l i. (form t q (4 * c + i) *ℤ weight i l) *ℤ φ (corner t u l)) ∙
-          (sum-cong 4 (λ i. sum 4 (λ l. (form t q (4 * c + i) *ℤ weight i l) *ℤ φ (corner t u l))) (λ i. (form t q (4 * c + i) *ℤ φ (corner t c i)) *ℤ cellVolume t u) row-sum ∙
+          (sum-cong 4 (λ l. (form t q (4 * u + l) *ℤ φ (corner t u l)) *ℤ cellVolume t c) (λ l. sum 4 (λ i. (form t q (4 * c + i) *ℤ cornerWeight i l) *ℤ φ (corner t u l))) (λ l hl. spread l) ∙
+          (sum-swap 4 4 (λ l i. (form t q (4 * c + i) *ℤ cornerWeight i l) *ℤ φ (corner t u l)) ∙
+          (sum-cong 4 (λ i. sum 4 (λ l. (form t q (4 * c + i) *ℤ cornerWeight i l) *ℤ φ (corner t u l))) (λ i. (form t q (4 * c + i) *ℤ φ (corner t c i)) *ℤ cellVolume t u) row-sum ∙
           sum-times 4 (λ i. form t q (4 * c + i) *ℤ φ (corner t c i)) (cellVolume t u))))
         where
-          spread : (l : ℕ) → (form t q (4 * u + l) *ℤ φ (corner t u l)) *ℤ cellVolume t c ≡ sum 4 (λ i. (form t q (4 * c + i) *ℤ weight i l) *ℤ φ (corner t u l))
+          spread : (l : ℕ) → (form t q (4 * u + l) *ℤ φ (corner t u l)) *ℤ cellVolume t c ≡ sum 4 (λ i. (form t q (4 * c + i) *ℤ cornerWeight i l) *ℤ φ (corner t u l))
           spread l =
               ring (var 0 ⊗ var 1 ⊗ var 2) (var 2 ⊗ var 0 ⊗ var 1) tt (form t q (4 * u + l) ∷ φ (corner t u l) ∷ cellVolume t c ∷ []) ∙
               (ap (λ z. z *ℤ φ (corner t u l)) (sym (form-between t q c (4 * u + l))) ∙
-              sym (sum-times 4 (λ i. form t q (4 * c + i) *ℤ weight i l) (φ (corner t u l))))
+              sym (sum-times 4 (λ i. form t q (4 * c + i) *ℤ cornerWeight i l) (φ (corner t u l))))
 
     pub linked-value : 1 ≤ q .w → {c d : ℕ} → c < n → Chain t n (FaceHolds t q) c d → formWeighted t q φ c *ℤ cellVolume t d ≡ formWeighted t q φ d *ℤ cellVolume t c
     linked-value w≥ l here = refl

@@ -10,7 +10,7 @@ use native.Mathlib.Nat.{le-refl}
 use lib.IntN.{ℤ, pos, negℤ, _+ℤ_, _-ℤ_, _*ℤ_, zero-*ℤ, *ℤ-zero, +ℤ-idr, negℤ-negℤ}
 use lib.Signed.{_<ℤ_, _≤ℤ_, ltZ}
 use Rattle.arith.specs.Table.{countBelow}
-use Rattle.arith.proofs.Order.{arithℤ, posPart, negPart, parts-sub, ≡→≤, <→≤, <-irrefl, ≤-<-trans, <-≤-trans, trichotomy, total, *-nonneg, *-pos, +-pos, +-nonpos, *-nonpos-r, posPart-is, negPart-is, cancel-nonneg, cancel-pos, cancel-zero, neg-pos, neg-mono-<, leZ-not, le-leZ, ltZ-true, lt-ltZ}
+use Rattle.arith.proofs.Order.{arithℤ, posPart, negPart, parts-sub, ≡→≤, <→≤, <-irrefl, ≤-<-trans, <-≤-trans, trichotomy, total, *-nonneg, *-pos, +-pos, +-nonpos, *-nonpos-r, posPart-is, negPart-is, cancel-nonneg, cancel-pos, cancel-zero, neg-pos, pos-pos, neg-mono-<, leZ-not, le-leZ, ltZ-true, lt-ltZ}
 use Rattle.arith.proofs.Flags.{and-left, and-right, and-intro}
 use Rattle.arith.proofs.Tables.{find}
 use Rattle.arith.proofs.Counting.{count-lt, count-less}
@@ -110,11 +110,8 @@ module _ {X Y Z pc cc np n : ℕ} {t : Tables} (M : IsMesh X Y Z pc cc np n t) (
   wall-inner-form =
       subst (λ z. pos 0 ≤ℤ z) (sym (form-of-sides t q f))
       (cancel-nonneg {a = pos X *ℤ pos Y *ℤ pos Z *ℤ pos (q .w) *ℤ pos (q .w)} (lin a b c d q)
-      (*-pos (*-pos (*-pos (*-pos (above X (M .sideX .low)) (above Y (M .sideY .low))) (above Z (M .sideZ .low))) (above (q .w) (box .w≥))) (above (q .w) (box .w≥)))
+      (*-pos (*-pos (*-pos (*-pos (pos-pos X (M .sideX .low)) (pos-pos Y (M .sideY .low))) (pos-pos Z (M .sideZ .low))) (pos-pos (q .w) (box .w≥))) (pos-pos (q .w) (box .w≥)))
       corner-mean)
-    where
-      above : (s : ℕ) → 1 ≤ s → pos 0 <ℤ pos s
-      above s h = omega arithℤ
 
 -- ---- places from which the line to q meets no two faces of a cell at once
 
@@ -160,12 +157,12 @@ pub record Visited (t : Tables) (Way : Place → Type 0) (c : ℕ) : Type 0 wher
   pub way : Way place
   pub inside : InsideForm t place c
 
--- the walk to q leaves such a cell c through face k
-pub record Leaves (t : Tables) (q : Place) (Way : Place → Type 0) (c k : ℕ) : Type 0 where
+-- a walk to q crosses face k of such a cell c
+pub record Crosses (t : Tables) (q : Place) (Way : Place → Type 0) (c k : ℕ) : Type 0 where
   pub from : Visited t Way c
   pub separates : form t q (4 * c + k) <ℤ pos 0
 
--- ---- one event: on to just behind the first plane
+-- ---- F3: on to just behind the first plane
 
 module _ {X Y Z pc cc np n : ℕ} {t : Tables} (M : IsMesh X Y Z pc cc np n t) (R : Room pc cc t)
     (q : Place) (box : InBoxAt X Y Z q) (p : Place) (gen : Generic t n q p) (F : First (4 * n) (form t p) (form t q)) where
@@ -394,7 +391,7 @@ module _ {X Y Z pc cc np n : ℕ} {t : Tables} (M : IsMesh X Y Z pc cc np n t) (
   onto-inside (stays i) = i
   onto-inside (moves k h b z r i) = i
 
-  onto-chain : (Way : Place → Type 0) → Way p → {c d : ℕ} (P : Passed c) → c < n → InsideForm t p c → Chain t n (Leaves t q Way) (onto P) d → Chain t n (Leaves t q Way) c d
+  onto-chain : (Way : Place → Type 0) → Way p → {c d : ℕ} (P : Passed c) → c < n → InsideForm t p c → Chain t n (Crosses t q Way) (onto P) d → Chain t n (Crosses t q Way) c d
   onto-chain Way y (stays i) l j w = w
   onto-chain Way y {c} (moves k h b z r i) l j w =
       step k h record { from = record { place = p; way = y; inside = j }; separates = b } (M .across< (4 * c + k) (omega arith) r) w
@@ -447,7 +444,7 @@ pub record Walks (t : Tables) (n : ℕ) (q : Place) (Way : Place → Type 0) (c�
   pub end₂ : ℕ
   pub end₁< : end₁ < n
   pub end₂< : end₂ < n
-  pub chain : Chain t n (Leaves t q Way) c₁ end₁
+  pub chain : Chain t n (Crosses t q Way) c₁ end₁
   pub last : Visited t Way end₁
   pub holds₁ : HoldsForm t q end₁
   pub holds₂ : HoldsForm t q end₂

@@ -31,7 +31,8 @@ lastCavity m t p a = correctedCavity t (m .cells) p (saysYes a t p)
 unfoldable pub cellsMade : Mesh → Tables → Position → Answers → ℕ
 cellsMade m t p a = madeCount t (m .cells) p (lastCavity m t p a)
 
--- refusals 4 to 8 of a node, checked in number order; 0 where there is none. 7 never occurs: `never-seven` (covering/proofs/NeverSeven).
+-- refusals 4 to 8 of a node, checked in number order; 0 where there is none. After tests 1 to 3, 7 never occurs:
+-- `never-seven` (covering/proofs/NeverSeven).
 unfoldable pub nodeRefusal : Mesh → Tables → ℕ → Position → Answers → ℕ
 nodeRefusal m t w p a =
     cond (not (inBox (m .x) (m .y) (m .z) p)) 4

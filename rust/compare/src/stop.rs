@@ -52,7 +52,7 @@ pub fn difference(left: &Left, right: &Left) -> Option<String> {
 pub fn wrong_with_both(call: &Call, before: &GuardedTables, left: &Left) -> Option<String> {
     wrong_work(call, before, &left.tables)
         .or_else(|| wrong_input(call, left))
-        .or_else(|| unknown_answer(call, left))
+        .or_else(|| unreachable_answer(call, left))
 }
 
 fn differs<T>(name: &str, left: &Guarded<T>, right: &Guarded<T>) -> Option<String>
@@ -92,7 +92,7 @@ fn wrong_input(call: &Call, left: &Left) -> Option<String> {
     changed.then(|| "input: written".to_string())
 }
 
-fn unknown_answer(call: &Call, left: &Left) -> Option<String> {
+fn unreachable_answer(call: &Call, left: &Left) -> Option<String> {
     let (name, outcome) = (call.name(), left.answer.outcome());
     (!is_reachable(name, outcome)).then(|| {
         let outcome = outcome_name(outcome);
