@@ -85,7 +85,7 @@ volume-scaled s q =
     ring (sixₑ (scaledₑ 0) (scaledₑ 1) (scaledₑ 2) (scaledₑ 3)) (var 15 ⊗ var 15 ⊗ var 15 ⊗ sixₑ (p₃ 0) (p₃ 1) (p₃ 2) (p₃ 3)) tt
     (env₃ (s 0 ∷ s 1 ∷ s 2 ∷ s 3 ∷ []) (env₄ (q ∷ []) []))
 
--- ---- by forms
+-- ---- by forms; `holds` is unfolded also where only an edit needs it, which is then refused for the test that differs
 
 module _ (t : Tables) where
   entry : (w : ℕ) (l : List ℕ) (i : ℕ) → getD (map (λ x. w * x) l) i 0 ≡ w * getD l i 0

@@ -122,6 +122,7 @@ module _ {X Y Z pc cc np n : ℕ} {t : Tables} (M : IsMesh X Y Z pc cc np n t) (
         step k h
         record {
           cell = holds-form t q (box .w≥) c .1 own;
+          -- by the tactic, so that an edit which lets any face pass is refused below, where values are compared
           plane = Prim.cc level;
         }
         u (linked u v s)

@@ -51,6 +51,7 @@ pub record Needed (out : Clause) : Type 0 where
   pub others : isMeshBut out mesh tables work ≡ true
   pub uncovered-or-twice : Covers mesh tables → ⊥
 
+-- seven of the twelve clauses
 pub record NeededClauses : Type 0 where
   pub capacities-sides-counts : Needed sizes
   pub neighbour-in-range : Needed neighbour-numbers
