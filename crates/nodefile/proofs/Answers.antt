@@ -25,7 +25,7 @@ use Rattle.nodefile.specs.declared.Read.the-variants.{Nodes, Refused as 
 use Rattle.nodefile.specs.declared.Written.the-variants.{Bytes, Refused as WriteRefused}
 use Rattle.nodefile.specs.Bytes.{numbersOf, bytesOf}
 use Rattle.nodefile.specs.Read.{trailer, header, distance, wrongTrailer, readRefusal, firstRecord, records, nodes, readAnswer, readOutput, ReadLeaves}
-use Rattle.nodefile.specs.Write.{nodeCount, nodesOf, trailerOf, fileOf, writeRefusal, writeAnswer, writeOutput, WriteLeaves}
+use Rattle.nodefile.specs.Write.{nodeCount, nodesOf, trailerOf, fileOf, headerOf, meshFile, writeRefusal, writeAnswer, writeOutput, WriteLeaves}
 use Rattle.nodefile.specs.Inner.{Writable}
 use Rattle.nodefile.proofs.Digits.{numbers-length, bytes-length, bytes-append}
 
@@ -122,26 +122,31 @@ two-writes a A B old xs ys e p q =
     let middle : ys ≡ over B (drop (length A) old) = q ∙ ap (λ l. over B l) (part-to-end xs a ∙ back) in
     (λ i. front i ++ (middle i ++ none i)) ∙ rw (append-nil, drop-drop, append-assoc, length-append)
 
-module _ (m : Mesh) (ps : List ℕ) (h : 8 ≤ m .points) (k : 3 * m .points ≤ length ps) where
-  pub nodes-length : length (nodesOf m ps) ≡ 3 * nodeCount m
-  unfolding nodesOf nodeCount
-  nodes-length = omega (arith, length-take (3 * (m .points - 8)) (drop 24 ps), length-drop 24 ps)
+module _ (h : Header) (ns : List ℕ) (e : length ns ≡ 3 * h .count) where
+  pub records-length : length (bytesOf ns) ≡ 12 * h .count
+  records-length = omega (arith, bytes-length ns, e)
 
-  pub file-length : length (fileOf m ps) ≡ 12 * nodeCount m + 20
+  pub file-length : length (fileOf h ns) ≡ 12 * h .count + 20
   unfolding fileOf trailerOf
-  file-length = omega (arith, bytes-length (nodesOf m ps ++ trailerOf m), length-append (nodesOf m ps) (trailerOf m), nodes-length)
+  file-length = omega (arith, bytes-length (ns ++ trailerOf h), length-append ns (trailerOf h), e)
 
   -- the records, and then the trailer, in a part of out
-  pub file-written : (old : List ℕ) {xs ys : List ℕ} → xs ≡ over (bytesOf (take (3 * m .points - 24) (drop 24 ps))) old →
-      ys ≡ over (bytesOf (trailerOf m)) (take (length xs - 12 * nodeCount m) (drop (12 * nodeCount m) xs)) →
-      putMid (12 * nodeCount m) (length xs - 12 * nodeCount m) xs ys ≡ over (fileOf m ps) old
-  unfolding fileOf nodesOf nodeCount
+  pub file-written : (old : List ℕ) {xs ys : List ℕ} → xs ≡ over (bytesOf ns) old →
+      ys ≡ over (bytesOf (trailerOf h)) (take (length xs - 12 * h .count) (drop (12 * h .count) xs)) →
+      putMid (12 * h .count) (length xs - 12 * h .count) xs ys ≡ over (fileOf h ns) old
+  unfolding fileOf
   file-written old {xs} {ys} p q =
-      let e : 3 * m .points - 24 ≡ 3 * nodeCount m = omega arith in
-      let n : length (bytesOf (nodesOf m ps)) ≡ 12 * nodeCount m = omega (arith, bytes-length (nodesOf m ps), nodes-length) in
-      two-writes (12 * nodeCount m) (bytesOf (nodesOf m ps)) (bytesOf (trailerOf m)) old xs ys n
-      (p ∙ ap (λ c. over (bytesOf (take c (drop 24 ps))) old) e) q ∙
-      ap (λ l. over l old) (sym (bytes-append (nodesOf m ps) (trailerOf m)))
+      two-writes (12 * h .count) (bytesOf ns) (bytesOf (trailerOf h)) old xs ys records-length p q ∙
+      ap (λ l. over l old) (sym (bytes-append ns (trailerOf h)))
+
+pub nodes-length : (m : Mesh) (ps : List ℕ) → 8 ≤ m .points → 3 * m .points ≤ length ps → length (nodesOf m ps) ≡ 3 * nodeCount m
+unfolding nodesOf nodeCount
+nodes-length m ps h k = omega (arith, length-take (3 * (m .points - 8)) (drop 24 ps), length-drop 24 ps)
+
+-- points 8 onward, by where the points end
+pub nodes-part : (m : Mesh) (ps : List ℕ) → take (3 * m .points - 24) (drop 24 ps) ≡ nodesOf m ps
+unfolding nodesOf nodeCount
+nodes-part m ps = let e : 3 * m .points - 24 ≡ 3 * nodeCount m = omega arith in ap (λ c. take c (drop 24 ps)) e
 
 module _ (m : Mesh) (t : Tables) (w : ℕ) where
   pub counts : meshRefusal m t w false ≡ 0 → Counts (m .x) (m .y) (m .z) (pointCapacity t) (cellCapacity t w) (m .points) (m .cells)
@@ -152,8 +157,9 @@ module _ (m : Mesh) (t : Tables) (w : ℕ) where
   pub placed : meshRefusal m t w false ≡ 0 → Placed (t .points) (m .points)
   placed e = solid m (t .points) (t .corners) (t .neighbours) w (passed m t w false e) .placed
 
-  length-here : meshRefusal m t w false ≡ 0 → length (fileOf m (t .points)) ≡ 12 * nodeCount m + 20
-  length-here e = file-length m (t .points) (counts e .points≥) (placed e .points-fit)
+  length-here : meshRefusal m t w false ≡ 0 → length (meshFile m (t .points)) ≡ 12 * nodeCount m + 20
+  unfolding headerOf
+  length-here e = file-length (headerOf m) (nodesOf m (t .points)) (nodes-length m (t .points) (counts e .points≥) (placed e .points-fit))
 
   module _ (room : ℕ) where
     -- the mesh's own refusals come first
@@ -216,6 +222,6 @@ module _ (m : Mesh) (t : Tables) (ws out : List ℕ) {n : ℕ} {w : List ℕ} (e
   unfolding writeAnswer writeOutput
   write-refused d = record { answer = rw (← same, ne-eqb n 0 d); output = rw (← same, ne-eqb n 0 d); work = k }
 
-  pub write-accepted : n ≡ 0 → {r : ℕ} {o : List ℕ} → r ≡ length (fileOf m (t .points)) → o ≡ over (fileOf m (t .points)) out → WriteLeaves m t ws out (Bytes r) w o
+  pub write-accepted : n ≡ 0 → {r : ℕ} {o : List ℕ} → r ≡ length (meshFile m (t .points)) → o ≡ over (meshFile m (t .points)) out → WriteLeaves m t ws out (Bytes r) w o
   unfolding writeAnswer writeOutput
   write-accepted h a b = record { answer = rw (← same, eq-eqb n 0 h, a); output = rw (← same, eq-eqb n 0 h, b); work = k }

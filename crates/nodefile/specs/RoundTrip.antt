@@ -5,15 +5,11 @@ use mathlib.Core.Path.{_≡_}
 use lib.ListN.{length, getD, take}
 use Rattle.mesh.specs.declared.Mesh.{Mesh}
 use Rattle.nodefile.specs.declared.Header.{Header}
-use Rattle.nodefile.specs.Write.{nodeCount, nodesOf}
+use Rattle.nodefile.specs.Write.{nodesOf}
 
 -- a list of bytes
 abbrev pub IsBytes : List ℕ → Type 0
 IsBytes l = (i : ℕ) → i < length l → getD l i 0 < 256
-
--- the sides and the node count of a mesh
-unfoldable pub headerOf : Mesh → Header
-headerOf m = record { x = m .x; y = m .y; z = m .z; count = nodeCount m }
 
 -- a mesh with the sides that were read, and with the nodes that were read for its points 8 onward
 pub record HoldsRead (m : Mesh) (ps : List ℕ) (h : Header) (out : List ℕ) : Type 0 where

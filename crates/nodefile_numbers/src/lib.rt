@@ -1,10 +1,13 @@
-// Numbers as bytes, low byte first.
+// Numbers as bytes, low byte first; a file's bytes.
 
 ghost use mathlib.Core.Path.{_≡_};
 ghost use Prim.Native.Nat.{_+_, _*_, _/_, _%_, _^_, _≤_, _<_};
 ghost use lib.ListN.{length};
 ghost use Rattle.mesh.specs.Start.{over};
 ghost use Rattle.nodefile.specs.Bytes.{numberAt, numbersOf, bytesOf};
+ghost use Rattle.nodefile.specs.Write.{fileOf};
+ghost use Rattle.nodefile.specs.Inner.{FileFits};
+use nodefile::Header;
 
 fn wide(byte: u8) -> u32
     ensures { λ r. ⌜ (r ≡ byte) × (r < 256) ⌝ }
@@ -54,4 +57,18 @@ pub fn write_numbers(numbers: &[u32], bytes: &mut [u8])
         bytes[i] = byte_of(numbers[i / 4], i % 4);
         i += 1;
     }
+}
+
+// The file of these sides and nodes, with no note. Answers the number of bytes.
+pub fn write_file(head: Header, nodes: &[u32], out: &mut [u8]) -> u32
+    requires { ⌜ FileFits head (now nodes) (length (now out)) ⌝ }
+    ensures { λ r. ⌜ (r ≡ length (fileOf head (now (nodes .entry))))
+        × (now (out .exit) ≡ over (fileOf head (now (nodes .entry))) (now (out .entry))) ⌝ }
+{
+    write_numbers(nodes, out);
+    let distance = 12 * head.count;
+    let fields = [head.x, head.y, head.z, head.count, distance];
+    let trailer = distance as usize;
+    write_numbers(&fields, &mut out[trailer..]);
+    distance + 20
 }

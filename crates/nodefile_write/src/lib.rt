@@ -4,13 +4,14 @@ ghost use mathlib.Core.Path.{_≡_};
 ghost use lib.ListN.{length};
 ghost use Rattle.mesh.specs.Tables.{tablesBefore};
 ghost use Rattle.mesh.specs.Start.{over};
-ghost use Rattle.nodefile.specs.Write.{fileOf, writeRefusal, WriteLeaves};
+ghost use Rattle.nodefile.specs.Write.{meshFile, writeRefusal, WriteLeaves};
 ghost use Rattle.nodefile.specs.Inner.{Writable};
 use mesh::Mesh;
 use mesh_check::mesh_refusal;
 use mesh_tables::clear;
+use nodefile::Header;
 use nodefile::Written;
-use nodefile_numbers::write_numbers;
+use nodefile_numbers::write_file;
 
 fn write_refusal(
     mesh: Mesh,
@@ -33,20 +34,20 @@ fn write_refusal(
     0
 }
 
-// Points 8 onward, then the trailer. Answers the number of bytes.
-fn write_file(mesh: Mesh, points: &[u32], out: &mut [u8]) -> u32
+// Points 8 onward. Answers the number of bytes.
+fn write_mesh(mesh: Mesh, points: &[u32], out: &mut [u8]) -> u32
     requires { ⌜ Writable mesh (now points) (length (now out)) ⌝ }
-    ensures { λ r. ⌜ (r ≡ length (fileOf mesh (now (points .entry))))
-        × (now (out .exit) ≡ over (fileOf mesh (now (points .entry))) (now (out .entry))) ⌝ }
+    ensures { λ r. ⌜ (r ≡ length (meshFile mesh (now (points .entry))))
+        × (now (out .exit) ≡ over (meshFile mesh (now (points .entry))) (now (out .entry))) ⌝ }
 {
     let end = 3 * mesh.points as usize;
-    write_numbers(&points[24..end], out);
-    let count = mesh.points - 8;
-    let distance = 12 * count;
-    let fields = [mesh.x, mesh.y, mesh.z, count, distance];
-    let trailer = distance as usize;
-    write_numbers(&fields, &mut out[trailer..]);
-    distance + 20
+    let head = Header {
+        x: mesh.x,
+        y: mesh.y,
+        z: mesh.z,
+        count: mesh.points - 8,
+    };
+    write_file(head, &points[24..end], out)
 }
 
 // The nodes of a mesh as a file, with no note.
@@ -66,6 +67,6 @@ pub fn write_nodes(
     if refusal != 0 {
         return Written::Refused(refusal);
     }
-    let bytes = write_file(mesh, points, out);
+    let bytes = write_mesh(mesh, points, out);
     Written::Bytes(bytes)
 }

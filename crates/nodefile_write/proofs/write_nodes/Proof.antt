@@ -16,8 +16,8 @@ same-length c = search needs
 returns : tie.Need-returns
 returns c = let a = c .before .before .before .before .before .before .before .before .before .before .before .args in write-refused (a .mesh) _ _ _ (c .before .write-refusal .ensures) (c .before .before .before .before .clear .ensures) (c .if1 .taken)
 
-write-file-requires : tie.Need-write-file-requires
-write-file-requires c κs = let e = c .before in writable _ _ _ _ (sym (e .before .write-refusal .ensures) ∙ e .if1 .left)
+write-mesh-requires : tie.Need-write-mesh-requires
+write-mesh-requires c κs = let e = c .before in writable _ _ _ _ (sym (e .before .write-refusal .ensures) ∙ e .if1 .left)
 
 same-length-2 : tie.Need-same-length-2
 same-length-2 c = search needs
@@ -29,7 +29,7 @@ returns-2 : tie.Need-returns-2
 returns-2 c =
     let e = c .before .before .before .before in
     let a = e .before .before .before .before .before .before .before .before .before .before .before .args in
-    write-accepted (a .mesh) _ _ _ (e .before .write-refusal .ensures) (e .before .before .before .before .clear .ensures) (e .if1 .left) (c .before .before .write-file .ensures .0) (c .before .before .write-file .ensures .1)
+    write-accepted (a .mesh) _ _ _ (e .before .write-refusal .ensures) (e .before .before .before .before .clear .ensures) (e .if1 .left) (c .before .before .write-mesh .ensures .0) (c .before .before .write-mesh .ensures .1)
 
 pub write-nodes-spec : {M : Type 1} → statement M
 write-nodes-spec =
@@ -39,7 +39,7 @@ write-nodes-spec =
     write-refusal-requires
     same-length
     returns
-    write-file-requires
+    write-mesh-requires
     same-length-2
     same-length-3
     returns-2)
