@@ -11,7 +11,7 @@ use Rattle.mesh.specs.Inner.{positionsOf, Cornered, Placed}
 pub placed-cornered : {ps k : List ℕ} {np : ℕ} → Placed ps np → ((i : ℕ) → i < 4 → getD k i 0 < np) → Cornered ps k
 placed-cornered p h =
     record {
-      has = λ i l. record { few = omega (arith, h i l, p .points-few); fits = omega (arith, h i l, p .points-fit) };
+      has = λ i l. record { fits = omega (arith, h i l, p .points-fit) };
       in-range = λ i l. p .in-range _ (h i l);
     }
 

@@ -12,6 +12,7 @@ pub mod Walls
 pub mod Mates
 pub mod Corners
 pub mod Reading
+pub mod Points
 pub mod Checked
 pub mod FirstMesh
 pub mod Pieces

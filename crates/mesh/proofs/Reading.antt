@@ -35,7 +35,7 @@ module _ {ps cs ns : List ℕ} {np n : ℕ} (M : SomeMesh (tables ps cs ns) np n
   has-neighbours c h = record { few = omega (arith, cells-few); fits = omega (arith, M .mesh .cells≤, room .neighbours-fit) }
 
   pub has-point : (k : ℕ) → k < np → HasPoint k ps
-  has-point k h = record { few = omega (arith, points-few); fits = omega (arith, M .mesh .points≤, room .points-fit) }
+  has-point k h = record { fits = omega (arith, M .mesh .points≤, room .points-fit) }
 
   pub point-in-range : (k : ℕ) → k < np → InRange (pointIn ps k)
   point-in-range k h =

@@ -8,6 +8,7 @@ use lib.Dec.{ltb}
 use lib.ListN.{length, getD, set}
 use lib.IntN.{ℤ, pos}
 use lib.Signed.{_<ℤ_}
+use Rattle.geometry.specs.declared.Position.{Position}
 use Rattle.geometry.specs.declared.Tetrahedron.{Tetrahedron}
 use Rattle.geometry.specs.Volume.{InRange, volume}
 use Rattle.mesh.specs.declared.Cell.{Cell}
@@ -24,6 +25,10 @@ unfoldable pub withFour : List ℕ → ℕ → List ℕ → List ℕ
 withFour xs c v =
     set (set (set (set xs (4 * c) (getD v 0 0)) (4 * c + 1) (getD v 1 0)) (4 * c + 2) (getD v 2 0)) (4 * c + 3) (getD v 3 0)
 
+-- a point table with p as point k
+unfoldable pub withPoint : List ℕ → ℕ → Position → List ℕ
+withPoint ps k p = set (set (set ps (3 * k) (p .x)) (3 * k + 1) (p .y)) (3 * k + 2) (p .z)
+
 -- the Cell at number c
 unfoldable pub cellAt : List ℕ → List ℕ → ℕ → Cell
 cellAt cs ns c = record { corners = fourAt cs c; neighbours = fourAt ns c }
@@ -35,7 +40,6 @@ pub record HasCell (c : ℕ) (xs : List ℕ) : Type 0 where
 
 -- point k is in a point table
 pub record HasPoint (k : ℕ) (ps : List ℕ) : Type 0 where
-  pub few : k < 1024
   pub fits : 3 * k + 3 ≤ length ps
 
 -- the capacities and refusals of a start, of lengths

@@ -6,14 +6,11 @@ ghost use mathlib.Core.Bool.{_&&_, cond};
 ghost use lib.Dec.{leb, eqb};
 ghost use Prim.Native.Nat.{_≤_, _*_};
 ghost use lib.ListN.{length};
-ghost use Rattle.arith.specs.Table.{allBelow};
-ghost use Rattle.geometry.specs.Volume.{inBox};
-ghost use Rattle.mesh.specs.Tables.{tables, tablesBefore, cleared, pointIn};
+ghost use Rattle.mesh.specs.Tables.{tables, tablesBefore, cleared};
 ghost use Rattle.mesh.specs.Mesh.{boxCorner};
 ghost use Rattle.mesh.specs.Check.{boxOk, countsOk, isMesh};
 ghost use Rattle.mesh.specs.Refusal.{meshRefusal};
 use geometry::Position;
-use geometry::volume::in_box;
 use geometry::volume::same_position;
 use mesh::Mesh;
 use mesh_cells::cells_pass;
@@ -24,24 +21,7 @@ use mesh_sizes::point_capacity;
 use mesh_sizes::too_short;
 use mesh_tables::clear;
 use mesh_tables::point_at;
-
-fn points_in_box(mesh: Mesh, points: &[u32]) -> bool
-    requires { ⌜ (mesh .points ≤ 1024) × (3 * mesh .points ≤ length (now points)) ⌝ }
-    ensures { λ r. ⌜ r ≡ allBelow (mesh .points) (λ k. inBox (mesh .x) (mesh .y) (mesh .z) (pointIn (now (points .entry)) k)) ⌝ }
-{
-    let x = mesh.x;
-    let y = mesh.y;
-    let z = mesh.z;
-    let np = mesh.points as usize;
-    let mut k: usize = 0;
-    while k < np {
-        if !in_box(x, y, z, point_at(points, k)) {
-            return false;
-        }
-        k += 1;
-    }
-    true
-}
+use mesh_tables::points_in_box;
 
 fn at_bit(bit: usize, side: u32) -> u32
     ensures { λ r. ⌜ r ≡ cond (eqb bit 1) side 0 ⌝ }
@@ -115,7 +95,7 @@ pub fn is_mesh(mesh: Mesh, points: &[u32], corners: &[u16], neighbours: &[u16], 
     if !box_corners_pass(mesh.x, mesh.y, mesh.z, points) {
         return false;
     }
-    if !points_in_box(mesh, points) {
+    if !points_in_box(mesh.x, mesh.y, mesh.z, points, mesh.points) {
         return false;
     }
     if !cells_pass(mesh, points, corners) {

@@ -1,13 +1,16 @@
 // Entries of the lent tables: points, and the four corners and neighbours of a cell; places in a cell.
 
 ghost use mathlib.Core.Path.{_≡_};
-ghost use Prim.Native.Nat.{ℕ, _<_};
-ghost use lib.ListN.{getD};
+ghost use Prim.Native.Nat.{ℕ, _*_, _≤_, _<_};
+ghost use lib.ListN.{length, getD};
+ghost use Rattle.arith.specs.Table.{allBelow};
+ghost use Rattle.geometry.specs.Volume.{inBox};
 ghost use Rattle.mesh.specs.Tables.{cleared, pointIn};
-ghost use Rattle.mesh.specs.Inner.{fourAt, withFour, cellAt, positionsOf, HasCell, HasPoint};
+ghost use Rattle.mesh.specs.Inner.{fourAt, withFour, withPoint, cellAt, positionsOf, HasCell, HasPoint};
 ghost use Rattle.mesh.specs.Inner.Faces.{first, second, third};
 use geometry::Position;
 use geometry::Tetrahedron;
+use geometry::volume::in_box;
 use mesh::Cell;
 
 // Three places of a cell.
@@ -27,6 +30,32 @@ pub fn point_at(points: &[u32], k: usize) -> Position
         y: points[at + 1],
         z: points[at + 2],
     }
+}
+
+pub fn put_point(points: &mut [u32], k: usize, p: Position)
+    requires { ⌜ HasPoint k (now points) ⌝ }
+    ensures { λ _. ⌜ now (points .exit) ≡ withPoint (now (points .entry)) k p ⌝ }
+{
+    let at = 3 * k;
+    points[at] = p.x;
+    points[at + 1] = p.y;
+    points[at + 2] = p.z;
+}
+
+// The first points lie in a box.
+pub fn points_in_box(x: u32, y: u32, z: u32, points: &[u32], count: u32) -> bool
+    requires { ⌜ 3 * count ≤ length (now points) ⌝ }
+    ensures { λ r. ⌜ r ≡ allBelow count (λ k. inBox x y z (pointIn (now (points .entry)) k)) ⌝ }
+{
+    let n = count as usize;
+    let mut k: usize = 0;
+    while k < n {
+        if !in_box(x, y, z, point_at(points, k)) {
+            return false;
+        }
+        k += 1;
+    }
+    true
 }
 
 // The corners of a cell, by their point numbers.

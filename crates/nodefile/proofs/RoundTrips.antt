@@ -1,6 +1,6 @@
 -- What was written is read back, and what was read is written back.
 use Prim.Native.Nat.{ℕ, zero, suc, _+_, _*_, _-_, _/_, _%_, _≤_, _<_}
-use mathlib.Core.Bool.{true, false}
+use mathlib.Core.Bool.{false}
 use mathlib.Core.List.{List, _++_}
 use mathlib.Core.Path.{_≡_, refl, sym, ap, _∙_, subst}
 use native.Mathlib.Omega.{arith}
@@ -25,7 +25,7 @@ use Rattle.nodefile.specs.Bytes.{numbersOf, bytesOf}
 use Rattle.nodefile.specs.Read.{trailer, header, distance, readRefusal, firstRecord, records, nodes, readAnswer, readOutput, ReadLeaves}
 use Rattle.nodefile.specs.Write.{nodeCount, nodesOf, trailerOf, fileOf, headerOf, meshFile, writeRefusal, writeAnswer, writeOutput, WriteLeaves}
 use Rattle.nodefile.specs.RoundTrip.{IsBytes, HoldsRead}
-use Rattle.nodefile.proofs.Digits.{Words, numbers-length, numbers-of-bytes, bytes-length, bytes-of-numbers, bytes-append}
+use Rattle.nodefile.proofs.Digits.{Words, numbers-length, numbers-of-bytes, bytes-of-numbers, bytes-append}
 use Rattle.nodefile.proofs.Answers.{Accepted, accepted, accept, nodes-length, records-length, file-length, counts, placed, writes-mesh}
 
 -- ---- a mesh's numbers are 32-bit

@@ -14,7 +14,7 @@ use Rattle.arith.proofs.Flags.{split, clash}
 use Rattle.geometry.specs.declared.Position.{Position}
 use Rattle.mesh.specs.Tables.{Tables, tables, pointCapacity, cellCapacity, none, cellOf, opposite, corner, across, mate}
 use Rattle.mesh.specs.Mesh.{IsMesh}
-use Rattle.mesh.specs.Inner.{HasPoint}
+use Rattle.mesh.specs.Inner.{HasPoint, withPoint}
 use Rattle.mesh.proofs.Room.{Room, room-of}
 use Rattle.mesh.proofs.Faces.{few, glued, mated}
 use Rattle.mesh.proofs.FaceNumbers.{face-cell, face-eq, opposite<}
@@ -23,8 +23,9 @@ use Rattle.cavity.specs.Inner.{inside, setOf}
 use Rattle.cavity.specs.declared.Node.{Node}
 use Rattle.cavity.proofs.Tests.{visible-of, outer-of}
 use Rattle.star.specs.declared.Replaced.{Replaced}
-use Rattle.star.specs.Star.{turnFace, newPoints, star, kept?, keptCount, madeCount, newCount, keptCells, madeFaces, keptNumber, madeNumber, oldAcross, starAcross, madeCorner, madeAcross, entry, newCorners, newNeighbours}
+use Rattle.star.specs.Star.{turnFace, star, kept?, keptCount, madeCount, newCount, keptCells, madeFaces, keptNumber, madeNumber, oldAcross, starAcross, madeCorner, madeAcross, entry, newCorners, newNeighbours}
 use Rattle.star.specs.Inner.{slotOf, numberOf, entryAt, starSlot, slotAcross, Starred, Replacing, stays, packNumber, renumbered, Packing, Zeroed, Packed}
+use Rattle.star.proofs.NewPoint.{point-put}
 use Rattle.star.proofs.Turn.{turn-ends}
 use Rattle.star.proofs.Star.{table-is, kept-new<, kept<, made<}
 use Rattle.star.proofs.NewFaces.{mate-visible, visible-not-coplanar}
@@ -87,7 +88,7 @@ module _ {t : Tables} {d : Node} {st li fa nu : List ℕ} {counts : Replaced} (B
   slot-below f v = omega (arith, slot< t n p st f v, B .counted)
 
   pub point-room : HasPoint (d .points) (t .points)
-  point-room = record { few = omega (arith, B .next, R .points≤); fits = omega (arith, B .next, R .points-fit) }
+  point-room = record { fits = omega (arith, B .next, R .points-fit) }
 
   -- ---- numbers
 
@@ -273,7 +274,7 @@ module _ {t : Tables} {d : Node} {st li fa nu : List ℕ} {counts : Replaced} (B
           (ap (renumbered N) (S .neighbours-new f j v k) ∙ made-right f j v k .is))
           (λ q h. P .moved .neighbours-beyond q h ∙ S .neighbours-beyond q (omega (arith, B .counted)))
 
-      pub star-packed : {ps : List ℕ} → ps ≡ newPoints (tables (t .points) [] []) (d .position) (d .points) →
+      pub star-packed : {ps : List ℕ} → ps ≡ withPoint (t .points) (d .points) (d .position) →
           tables ps cs′ ns′ ≡ star t (d .cells) (d .position) (d .points) (setOf (d .cells) st)
-      unfolding star newPoints
-      star-packed e i = tables (e i) (corners-packed i) (neighbours-packed i)
+      unfolding star
+      star-packed e = λ i. tables ((e ∙ point-put t (d .position) (d .points) (point-room .fits)) i) (corners-packed i) (neighbours-packed i)

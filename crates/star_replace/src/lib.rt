@@ -1,27 +1,15 @@
 // The star of a node in its cavity's place.
 
-ghost use mathlib.Core.List.{[]};
 ghost use mathlib.Core.Path.{_≡_};
-ghost use Rattle.mesh.specs.Tables.{tables, tablesIn, tablesBefore, tablesAfter};
-ghost use Rattle.mesh.specs.Inner.{HasPoint};
+ghost use Rattle.mesh.specs.Tables.{tablesIn, tablesBefore, tablesAfter};
 ghost use Rattle.cavity.specs.Inner.{setOf};
-ghost use Rattle.star.specs.Star.{newPoints, star};
+ghost use Rattle.star.specs.Star.{star};
 ghost use Rattle.star.specs.Inner.{Replacing};
 use cavity::Node;
-use geometry::Position;
+use mesh_tables::put_point;
 use star::Replaced;
 use star_cells::star_faces;
 use star_pack::pack;
-
-fn put_point(points: &mut [u32], np: usize, q: Position)
-    requires { ⌜ HasPoint np (now points) ⌝ }
-    ensures { λ _. ⌜ now (points .exit) ≡ newPoints (tables (now (points .entry)) [] []) q np ⌝ }
-{
-    let at = 3 * np;
-    points[at] = q.x;
-    points[at + 1] = q.y;
-    points[at + 2] = q.z;
-}
 
 // The star of the node takes the cavity's place: the kept cells in their old order, then the new ones, and the node after the points.
 pub fn replace_cavity(

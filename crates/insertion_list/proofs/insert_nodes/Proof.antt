@@ -22,7 +22,7 @@ slice-aggregate-insert-node : tie.Need-slice-aggregate-insert-node Inv-loop μ-l
 slice-aggregate-insert-node c = refl
 
 point-at-requires : tie.Need-point-at-requires Inv-loop μ-loop
-point-at-requires c κs = record { few = place< (c .before .before .before .before .before .loop .inv .1); fits = omega arith }
+point-at-requires c κs = record { fits = omega arith }
 
 insert-node-requires : tie.Need-insert-node-requires Inv-loop μ-loop
 insert-node-requires c κs = (c .before .before .before .before .before .before .loop .inv .1 .mesh, λ e. absurd (true≢false (sym e)))

@@ -20,7 +20,7 @@ unfolding sideCodes tabulate fill
 loop-holds c = (omega arith, refl)
 
 point-at-requires : tie.Need-point-at-requires Inv-loop μ-loop
-point-at-requires c κs = record { few = omega arith; fits = omega arith }
+point-at-requires c κs = record { fits = omega arith }
 
 side-code-requires : tie.Need-side-code-requires Inv-loop μ-loop
 side-code-requires c κs = search needs

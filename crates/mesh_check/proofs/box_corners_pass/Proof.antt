@@ -24,7 +24,7 @@ unfolding allBelow
 loop-holds c = (omega arith, refl)
 
 point-at-requires : tie.Need-point-at-requires Inv-loop μ-loop
-point-at-requires c κs = record { few = omega arith; fits = omega arith }
+point-at-requires c κs = record { fits = omega arith }
 
 box-corner-requires : tie.Need-box-corner-requires Inv-loop μ-loop
 box-corner-requires c κs = search needs

@@ -43,7 +43,7 @@ returns-2 : tie.Need-returns-2
 returns-2 c = sym (box-fails _ _ _ _ _ (test-failed (c .before .box-corners-pass .ensures) (c .if2 .taken)))
 
 points-in-box-requires : tie.Need-points-in-box-requires
-points-in-box-requires c κs = points-room _ _ _ _ _ (counted (c .before .before))
+points-in-box-requires c κs = points-room _ _ _ _ _ (counted (c .before .before)) .1
 
 returns-3 : tie.Need-returns-3
 returns-3 c = sym (inside-fails _ _ _ _ _ (test-failed (c .before .points-in-box .ensures) (c .if3 .taken)))

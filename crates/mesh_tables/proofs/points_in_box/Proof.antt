@@ -8,24 +8,21 @@ use Rattle.arith.proofs.Flags.{test-failed, test-passed}
 use Rattle.arith.proofs.Tables.{all-more, all-fewer, all-fails}
 use Rattle.geometry.specs.Volume.{inBox}
 use Rattle.mesh.specs.Tables.{pointIn}
-use Rattle.mesh_check.proofs.points_in_box.Statement.{statement}
-use Rattle.mesh_check.proofs.points_in_box.Tie as tie
+use Rattle.mesh_tables.proofs.points_in_box.Statement.{statement}
+use Rattle.mesh_tables.proofs.points_in_box.Tie as tie
 
 abbrev Inv-loop : tie.InvT-loop
-Inv-loop points x y z np k₀ k = (k ≤ np) × (allBelow k (λ i. inBox x y z (pointIn points i)) ≡ true)
+Inv-loop x y z points count n k₀ k = (k ≤ n) × (allBelow k (λ i. inBox x y z (pointIn points i)) ≡ true)
 
 abbrev μ-loop : tie.MeasureT-loop
-μ-loop points x y z np k₀ k = np - k
-
-cast-np : tie.Need-cast-np Inv-loop μ-loop
-cast-np c = search needs
+μ-loop x y z points count n k₀ k = n - k
 
 loop-holds : tie.Need-loop-holds Inv-loop μ-loop
 unfolding allBelow
 loop-holds c = (omega arith, refl)
 
 point-at-requires : tie.Need-point-at-requires Inv-loop μ-loop
-point-at-requires c κs = record { few = omega arith; fits = omega arith }
+point-at-requires c κs = record { fits = omega arith }
 
 in-box-requires : tie.Need-in-box-requires Inv-loop μ-loop
 in-box-requires c κs = search needs
@@ -53,7 +50,6 @@ points-in-box-spec =
     (tie.spec
     Inv-loop
     μ-loop
-    cast-np
     loop-holds
     point-at-requires
     in-box-requires

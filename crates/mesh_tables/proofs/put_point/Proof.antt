@@ -1,9 +1,10 @@
+use mathlib.Core.Path.{refl}
 use native.Mathlib.Omega.{arith}
 use lib.ListN.{length-set}
 use borrow.Author.Needs.{needs}
-use Rattle.star.proofs.NewPoint.{point-put}
-use Rattle.star_replace.proofs.put_point.Statement.{statement}
-use Rattle.star_replace.proofs.put_point.Tie as tie
+use Rattle.mesh.specs.Inner.{withPoint}
+use Rattle.mesh_tables.proofs.put_point.Statement.{statement}
+use Rattle.mesh_tables.proofs.put_point.Tie as tie
 
 mul-at : tie.Need-mul-at
 mul-at c = search needs
@@ -36,7 +37,8 @@ same-length : tie.Need-same-length
 same-length c = search needs
 
 returns : tie.Need-returns
-returns c = point-put _ (c .args .q) (c .args .np) (c .pre .fits)
+unfolding withPoint
+returns c = refl
 
 pub put-point-spec : {M : Type 1} → statement M
 put-point-spec =
