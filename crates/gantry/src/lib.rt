@@ -12,7 +12,7 @@ ghost use Rattle.mesh.specs.Tables.{tablesBefore, tablesAfter, cleared};
 ghost use Rattle.mesh.specs.Check.{isMesh};
 ghost use Rattle.cavity.specs.Answers.{sphere, handed};
 ghost use Rattle.gantry_numbers.specs.Numbers.{testedOf};
-ghost use Rattle.gantry_numbers.specs.Promises.{Starts, Inserts, Lists, Locates, Reads, Writes, Agrees};
+ghost use Rattle.gantry_numbers.specs.Promises.{Starts, Inserts, Lists, Locates, Reads, Writes, Merges, Agrees};
 use gantry_numbers::GantryInserted;
 use gantry_numbers::GantryListed;
 use gantry_numbers::GantryLocated;
@@ -34,6 +34,7 @@ use insertion_single::insert;
 use insertion_single::insert_answers;
 use insphere::sphere_test;
 use locate_call::locate;
+use merging_call::merge;
 use mesh::Mesh;
 use mesh_check::check;
 use mesh_start::start;
@@ -235,4 +236,11 @@ pub extern "C" fn gantry_write_nodes(
         r (now (work .exit)) (now (out .exit)) ⌝ }
 {
     written(write_nodes(mesh, points, corners, neighbours, work, out))
+}
+
+#[no_mangle]
+pub extern "C" fn gantry_merge(first: &[u8], second: &[u8], out: &mut [u8]) -> GantryWritten
+    ensures { λ r. ⌜ Merges (now (first .entry)) (now (second .entry)) (now (out .entry)) r (now (out .exit)) ⌝ }
+{
+    written(merge(first, second, out))
 }

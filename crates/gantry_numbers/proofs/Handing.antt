@@ -26,6 +26,7 @@ use Rattle.nodefile.specs.declared.Read.{Read}
 use Rattle.nodefile.specs.declared.Written.{Written}
 use Rattle.nodefile.specs.Read.{ReadLeaves}
 use Rattle.nodefile.specs.Write.{WriteLeaves}
+use Rattle.merging.specs.Merge.{MergeLeaves}
 use Rattle.gantry_numbers.specs.declared.GantryStarted.{GantryStarted}
 use Rattle.gantry_numbers.specs.declared.GantryInserted.{GantryInserted}
 use Rattle.gantry_numbers.specs.declared.GantryListed.{GantryListed}
@@ -33,7 +34,7 @@ use Rattle.gantry_numbers.specs.declared.GantrySphere.{GantrySphere}
 use Rattle.gantry_numbers.specs.declared.GantryRead.{GantryRead}
 use Rattle.gantry_numbers.specs.declared.GantryWritten.{GantryWritten}
 use Rattle.gantry_numbers.specs.Numbers.{startedOf, insertedOf, listedOf, sphereOf, testedOf, readOf, writtenOf}
-use Rattle.gantry_numbers.specs.Promises.{Starts, Inserts, Lists, Reads, Writes, Agrees}
+use Rattle.gantry_numbers.specs.Promises.{Starts, Inserts, Lists, Reads, Writes, Merges, Agrees}
 
 pub starts : {X Y Z : ℕ} {t t′ : Tables} {ws ws′ : List ℕ} {s : Started} {r : GantryStarted} →
     StartLeaves X Y Z t ws s t′ ws′ → r ≡ startedOf s → Starts X Y Z t ws r t′ ws′
@@ -54,6 +55,10 @@ writes l e = record { answer = e ∙ ap writtenOf (l .answer); output = l .outpu
 pub reads : {file out out′ : List ℕ} {s : Read} {r : GantryRead} →
     ReadLeaves file out s out′ → r ≡ readOf s → Reads file out r out′
 reads l e = record { answer = e ∙ ap readOf (l .answer); output = l .output }
+
+pub merges : {first second out out′ : List ℕ} {s : Written} {r : GantryWritten} →
+    MergeLeaves first second out s out′ → r ≡ writtenOf s → Merges first second out r out′
+merges l e = record { answer = e ∙ ap writtenOf (l .answer); output = l .output }
 
 -- ---- the sphere test
 

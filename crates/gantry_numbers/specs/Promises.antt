@@ -17,6 +17,7 @@ use Rattle.insertion.specs.Insertion.{insertCall}
 use Rattle.insertion.specs.List.{listCall}
 use Rattle.nodefile.specs.Read.{readAnswer, readOutput}
 use Rattle.nodefile.specs.Write.{writeAnswer, writeOutput}
+use Rattle.merging.specs.Merge.{mergeAnswer, mergeOutput}
 use Rattle.gantry_numbers.specs.declared.GantryStarted.{GantryStarted}
 use Rattle.gantry_numbers.specs.declared.GantryInserted.{GantryInserted}
 use Rattle.gantry_numbers.specs.declared.GantryListed.{GantryListed}
@@ -55,6 +56,10 @@ pub record Writes (m : Mesh) (t : Tables) (ws out : List ℕ) (r : GantryWritten
   pub answer : r ≡ writtenOf (writeAnswer m t (length ws) (length out))
   pub output : out′ ≡ writeOutput m t (length ws) out
   pub work : ws′ ≡ cleared ws
+
+pub record Merges (first second out : List ℕ) (r : GantryWritten) (out′ : List ℕ) : Type 0 where
+  pub answer : r ≡ writtenOf (mergeAnswer first second (length out))
+  pub output : out′ ≡ mergeOutput first second out
 
 -- what the sphere test's answer tells of the exact sum e: T lies within 2^39 of it, and beyond ±2^39 has its sign
 pub record Agrees (e : ℤ) (r : GantrySphere) : Type 0 where

@@ -2,7 +2,7 @@
 use Prim.Native.Nat.{ℕ, suc, _+_, _*_, _-_, _≤_, _<_}
 use mathlib.Core.Bool.{Bool, true, false, not, cond, _||_, true≢false}
 use mathlib.Core.List.{List, _++_, [], append-nil, append-assoc}
-use mathlib.Core.Logic.{_≢_}
+use mathlib.Core.Logic.{_≢_, _⊎_, inl, inr}
 use mathlib.Core.Path.{_≡_, refl, sym, ap, _∙_}
 use native.Mathlib.Omega.{arith}
 use native.Mathlib.Decide.{ℕ-discrete, decLt}
@@ -12,6 +12,7 @@ use borrow.Rule.Slice.PartMut.{putMid}
 use lib.Dec.{ltb, eqb}
 use lib.ListN.{length, getD, take, drop, length-append, length-take, length-drop, length-replicate, drop-of-length-le}
 use lib.Seq.{take-at, drop-at, drop-drop}
+use Rattle.arith.proofs.Flags.{split}
 use Rattle.mesh.specs.declared.Mesh.{Mesh}
 use Rattle.mesh.specs.Tables.{Tables, pointCapacity, cellCapacity, cleared}
 use Rattle.mesh.specs.Check.{legalBox}
@@ -31,7 +32,8 @@ use Rattle.nodefile.proofs.Digits.{numbers-length, bytes-length, bytes-
 
 -- ---- refusals
 
-later : (b : Bool) (n r : ℕ) → cond b (suc n) r ≡ 0 → (b ≡ false) × (r ≡ 0)
+-- a test that did not refuse, and what follows it
+pub later : (b : Bool) (n r : ℕ) → cond b (suc n) r ≡ 0 → (b ≡ false) × (r ≡ 0)
 later true n r e = absurd (omega arith)
 later false n r e = (refl, e)
 
@@ -88,6 +90,24 @@ accept file room a =
       le-ltb room (3 * header file .count) (a .room≥),
     )
 
+-- with room for 1,016 nodes a file is refused or not whatever the room
+pub any-room : (file : List ℕ) (room room′ : ℕ) → 3048 ≤ room → 3048 ≤ room′ → readRefusal file room ≡ readRefusal file room′
+unfolding readRefusal
+any-room file room room′ h h′ = go (split wrong)
+  where
+    n : ℕ
+    n = header file .count
+
+    wrong : Bool
+    wrong = ltb (length file) 20 || wrongTrailer n (distance file) (length file - 20)
+
+    go : (wrong ≡ true) ⊎ (wrong ≡ false) → readRefusal file room ≡ readRefusal file room′
+    go (inl e) = rw e
+    go (inr e) =
+        let f = neither (ltb (length file) 20) (wrongTrailer n (distance file) (length file - 20)) e in
+        let few = right-trailer n (distance file) (length file - 20) (f .1) .0 in
+        rw (le-ltb room (3 * n) (omega arith), le-ltb room′ (3 * n) (omega arith))
+
 -- ---- the parts of a file
 
 -- a trailer read into five numbers
@@ -112,7 +132,7 @@ records-part file fields e h =
 -- ---- what is written
 
 -- B written from place a on, after A was written at the front
-two-writes : (a : ℕ) (A B old xs ys : List ℕ) → length A ≡ a → xs ≡ over A old → ys ≡ over B (take (length xs - a) (drop a xs)) →
+pub two-writes : (a : ℕ) (A B old xs ys : List ℕ) → length A ≡ a → xs ≡ over A old → ys ≡ over B (take (length xs - a) (drop a xs)) →
     putMid a (length xs - a) xs ys ≡ over (A ++ B) old
 two-writes a A B old xs ys e p q =
     let front : take a xs ≡ A = ap (λ l. take a l) p ∙ take-at A (drop (length A) old) a e in

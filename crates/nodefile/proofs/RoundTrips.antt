@@ -81,7 +81,7 @@ module _ (h : Header) (ns : List ℕ) (l : Legal h ns) where
       ap numbersOf (ap (λ l. drop (length whole - 20) l) parts ∙ drop-at (bytesOf ns) (bytesOf (trailerOf h)) (length whole - 20) n) ∙
       numbers-of-bytes (trailerOf h) words-trailer
 
-  header-is : header whole ≡ h
+  pub header-is : header whole ≡ h
   unfolding header trailerOf
   header-is = ap (λ l. record { x = getD l 0 0; y = getD l 1 0; z = getD l 2 0; count = getD l 3 0 }) trailer-is
 
@@ -89,7 +89,7 @@ module _ (h : Header) (ns : List ℕ) (l : Legal h ns) where
   unfolding distance trailerOf
   distance-is = ap (λ l. getD l 4 0) trailer-is
 
-  nodes-are : nodes whole ≡ ns
+  pub nodes-are : nodes whole ≡ ns
   unfolding nodes records firstRecord
   nodes-are =
       let z : length whole - 20 - distance whole ≡ 0 = omega (arith, file-is, distance-is) in

@@ -17,8 +17,8 @@ use Rattle.nodefile.specs.Read.{firstRecord, ReadLeaves}
 use Rattle.nodefile.specs.Write.{WriteLeaves}
 use Rattle.nodefile.specs.RoundTrip.{IsBytes}
 
--- n bytes are written at the front of out
-pub record Through (file : List ℕ) (n : ℕ) (out : List ℕ) : Type 0 where
+-- the mesh m in the tables t is built from a file
+pub record Built (file : List ℕ) (m : Mesh) (t : Tables) : Type 0 where
   -- the reader's lent numbers may be more than the nodes take
   pub lent : List ℕ
   pub numbers : List ℕ
@@ -26,20 +26,24 @@ pub record Through (file : List ℕ) (n : ℕ) (out : List ℕ) : Type 0 where
   pub read : ReadLeaves file lent (Nodes head) numbers
   pub t₀ : Tables
   pub t₁ : Tables
-  pub t₂ : Tables
   pub m₁ : Mesh
-  pub m₂ : Mesh
   pub startWork : List ℕ
   pub startWork′ : List ℕ
   pub start : StartLeaves (head .x) (head .y) (head .z) t₀ startWork (Accepted m₁) t₁ startWork′
   pub listWork : List ℕ
   pub listWork′ : List ℕ
   pub count : ℕ
-  pub list : ListLeaves m₁ t₁ listWork (take (3 * head .count) numbers) (Ended m₂ count) t₂ listWork′
+  pub list : ListLeaves m₁ t₁ listWork (take (3 * head .count) numbers) (Ended m count) t listWork′
+
+-- and written: n bytes at the front of out
+pub record Through (file : List ℕ) (n : ℕ) (out : List ℕ) : Type 0 where
+  pub m : Mesh
+  pub t : Tables
+  pub built : Built file m t
   pub writeWork : List ℕ
   pub writeWork′ : List ℕ
   pub lentOut : List ℕ
-  pub write : WriteLeaves m₂ t₂ writeWork lentOut (Bytes n) writeWork′ out
+  pub write : WriteLeaves m t writeWork lentOut (Bytes n) writeWork′ out
 
 -- the same records and trailer are written, without the note
 abbrev pub ComesBack : Type 0
