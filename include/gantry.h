@@ -4,8 +4,8 @@
  * Every call ends and answers for all numbers handed in; none allocates, keeps a pointer or a state, or prints. What each one
  * answers and leaves in every lent entry is proved (crates/gantry_numbers/specs). All memory is the caller's and is lent for one
  * call: a pointer, then the number of entries behind it. A pointer is aligned for its type, and not NULL even where the length is 0;
- * the areas lent to one call do not overlap, and no other thread touches them meanwhile. The caller sees to that: it is assumed, not
- * proved. A call takes less than 40 KiB of stack, which is not proved either: the gate holds the archive to it.
+ * the areas lent to one call do not overlap, unless both are only read, and no other thread touches them meanwhile. The caller sees to
+ * that: it is assumed, not proved. A call takes less than 40 KiB of stack, which is not proved either: the gate holds the archive to it.
  *
  * Link with libgantry.a alone ('rt staticlib gantry' writes it, for x86-64 Linux); it takes memcpy and memset from the C library.
  */
@@ -22,21 +22,22 @@ extern "C" {
 
 /*
  * Refusals; docs/MANUAL.md says what to do about each. A refusal changes nothing but the work area; a list that stops at a refused
- * node keeps the nodes before it. Tests are made in number order, but a file's 9 before its 2. 7 is never answered: that is proved,
- * as never-seven in crates/covering.
+ * node keeps the nodes before it. Tests are made in number order, but a file's 9 before its 2, and 19 as gantry_merge says. 7 is never
+ * answered: that is proved, as never-seven in crates/covering.
  */
 #define GANTRY_ACCEPTED 0
-#define GANTRY_SHORT 1       /* room for fewer than 8 points or 6 cells, or fewer answer bytes than cells */
-#define GANTRY_BOX 2         /* a side is 0 or above 131,072 */
-#define GANTRY_NO_MESH 3     /* record and tables fail the mesh check */
-#define GANTRY_OUTSIDE 4     /* a position outside the box; in the sphere test, a coordinate above 131,072 */
-#define GANTRY_TAKEN 5       /* a point is already there */
-#define GANTRY_POINTS_FULL 6 /* there is no room for a further point */
-#define GANTRY_UNHELD 7      /* no cell holds the position */
-#define GANTRY_CELLS_FULL 8  /* the old cells and the new ones together exceed the room for cells */
-#define GANTRY_TRAILER 9     /* a file under 20 bytes, or a wrong count or distance in its trailer */
-#define GANTRY_NO_PLACE 10   /* the output is shorter than what is to be written */
-#define GANTRY_FLAT_CELL 11  /* a sphere test on a cell of volume 0 or less */
+#define GANTRY_SHORT 1          /* room for fewer than 8 points or 6 cells, or fewer answer bytes than cells */
+#define GANTRY_BOX 2            /* a side is 0 or above 131,072 */
+#define GANTRY_NO_MESH 3        /* record and tables fail the mesh check */
+#define GANTRY_OUTSIDE 4        /* a position outside the box; in the sphere test, a coordinate above 131,072 */
+#define GANTRY_TAKEN 5          /* a point is already there */
+#define GANTRY_POINTS_FULL 6    /* there is no room for a further point; in a merge, more than 1,016 nodes are left */
+#define GANTRY_UNHELD 7         /* no cell holds the position */
+#define GANTRY_CELLS_FULL 8     /* the old cells and the new ones together exceed the room for cells */
+#define GANTRY_TRAILER 9        /* a file under 20 bytes, or a wrong count or distance in its trailer */
+#define GANTRY_NO_PLACE 10      /* the output is shorter than what is to be written */
+#define GANTRY_FLAT_CELL 11     /* a sphere test on a cell of volume 0 or less */
+#define GANTRY_UNEQUAL_SIDES 19 /* the boxes of two files to be merged differ in a side */
 
 /* Sphere answers; 0 in a refusal. */
 #define GANTRY_SPHERE_INSIDE 1
@@ -116,6 +117,14 @@ gantry_read gantry_read_nodes(const uint8_t *file, size_t file_len, uint32_t *no
 
 /* The nodes of a mesh as a node file: 12 bytes a node and 20. Writes the work area and out alone. Refusals 1 2 3 10. */
 gantry_written gantry_write_nodes(gantry_mesh mesh, GANTRY_TABLES, uint8_t *out, size_t out_len);
+
+/*
+ * Two node files of one box as one, without a note: the first's nodes in order, then the second's, each position a single time where
+ * it first stands, within one file too; box corners are left out. That is 12 bytes a node left and 20, at most 12,212. The two files may
+ * overlap, or be the same. Refusals, in this order: 9 2 of the first file, 9 2 of the second, 19, 4 for any node of either file, 6, 10.
+ */
+gantry_written gantry_merge(const uint8_t *first, size_t first_len, const uint8_t *second, size_t second_len,
+                            uint8_t *out, size_t out_len);
 
 /*
  * Six times the volume of (a, b, c, d), below 0 where they turn the other way, and within -2^52 to 2^52; GANTRY_VOLUME_NONE for a

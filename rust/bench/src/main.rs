@@ -30,8 +30,8 @@ fn build(name: &str) -> Option<&'static dyn Builder> {
 /// All builds must leave the same before any is measured.
 fn agree(work: &mut Work, builds: &[&dyn Builder]) -> Result<(), String> {
     let lefts: Vec<_> = builds.iter().map(|build| work.left(*build)).collect();
-    if !Work::is_accepted(&lefts[0]) {
-        return Err("refused".to_string());
+    if !work.is_answered(&lefts[0]) {
+        return Err("another answer than meant".to_string());
     }
     match lefts.iter().position(|left| *left != lefts[0]) {
         Some(b) => Err(format!("{} leaves something else", builds[b].name())),

@@ -25,15 +25,39 @@ pub fn random(count: usize) -> Set {
     }
 }
 
-/// 9 × 9 × 9 without the box corners, x running fastest.
-pub fn lattice() -> Set {
-    let nodes = (0..729)
-        .map(|k| [k % 9, k / 9 % 9, k / 81])
-        .filter(|p| p.iter().any(|&n| n != 0 && n != 8))
-        .map(|p| p.map(|n| n * (SIDE_LIMIT / 8)));
+/// So many nodes along each side, x running fastest, without the box corners.
+pub fn lattice(along: u32) -> Set {
+    let last = along - 1;
+    let spacing = SIDE_LIMIT / last;
+    let nodes = (0..along * along * along)
+        .map(|k| [k % along, k / along % along, k / (along * along)])
+        .filter(|p| p.iter().any(|&n| n != 0 && n != last))
+        .map(|p| p.map(|n| n * spacing));
+    Set {
+        sides: [last * spacing; 3],
+        nodes: nodes.collect(),
+    }
+}
+
+/// In consecutive steps along x.
+pub fn row(count: u32) -> Set {
     Set {
         sides: CUBE,
-        nodes: nodes.collect(),
+        nodes: (1..=count).map(|x| [x, 1, 1]).collect(),
+    }
+}
+
+/// Picked against the proved merge: its search for each begins at one place (`startOf` of crates/merging/specs/Inner).
+pub fn of_one_start(count: usize) -> Set {
+    let start = |[x, y, z]: Position| {
+        let [x, y, z] = [x, y, z].map(u64::from);
+        (879_579_789 * x + 720_527_587 * y + 590_236_393 * z) / 524_288 % 2_048
+    };
+    let mut random = Random::new(3);
+    let nodes = std::iter::repeat_with(|| anywhere(&mut random, CUBE));
+    Set {
+        sides: CUBE,
+        nodes: nodes.filter(|&p| start(p) == 0).take(count).collect(),
     }
 }
 

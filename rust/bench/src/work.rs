@@ -1,7 +1,10 @@
 //! What is measured: one pass of a work, on any build.
 
+use std::ops::Range;
+
 use compare::call::Answer;
 use compare::Builder;
+use plain::nodefile::encode;
 use plain::random::Random;
 use plain::{Mesh, Owned, Position, NODE_LIMIT};
 
@@ -31,9 +34,9 @@ const fn entry(
 }
 
 #[rustfmt::skip]
-pub const ENTRIES: [Entry; 11] = [
+pub const ENTRIES: [Entry; 21] = [
     entry("random", "620 random nodes", Some(2.0), || list(nodes::random(620))),
-    entry("lattice", "lattice 9×9×9", Some(2.0), || list(nodes::lattice())),
+    entry("lattice", "lattice 9×9×9", Some(2.0), || list(nodes::lattice(9))),
     entry("walls", "1,016 nodes on walls", Some(2.0), || list(nodes::walls())),
     entry("bed", "600 nodes along a bed", Some(2.0), || list(nodes::bed())),
     entry("random-100", "first 100 random nodes", Some(2.0), || list(nodes::random(100))),
@@ -43,7 +46,40 @@ pub const ENTRIES: [Entry; 11] = [
     entry("locate", "locate", Some(2.0), || call(Kind::Locate(positions()))),
     entry("read", "read a node file", None, || call(Kind::Read)),
     entry("write", "write a node file", None, || call(Kind::Write)),
+    entry("merge-random", "merge 508 and 508 random nodes", None, || merge(nodes::random(1_016), &HALVES)),
+    entry("merge-random-many", "merge 1,016 and 1,016 random nodes: 6", None, || merge(nodes::random(2_032), &MANY)),
+    entry("merge-random-same", "merge 1,016 random nodes twice", None, || merge(nodes::random(1_016), &SAME)),
+    entry("merge-lattice", "merge 508 and 508 nodes of a lattice", None, || merge(nodes::lattice(13), &HALVES)),
+    entry("merge-lattice-many", "merge 1,016 and 1,016 nodes of a lattice: 6", None, || merge(nodes::lattice(13), &MANY)),
+    entry("merge-lattice-same", "merge 1,016 nodes of a lattice twice", None, || merge(nodes::lattice(13), &SAME)),
+    entry("merge-row", "merge 508 and 508 nodes of a row", None, || merge(nodes::row(1_016), &HALVES)),
+    entry("merge-row-many", "merge 1,016 and 1,016 nodes of a row: 6", None, || merge(nodes::row(2_032), &MANY)),
+    entry("merge-row-same", "merge 1,016 nodes of a row twice", None, || merge(nodes::row(1_016), &SAME)),
+    entry("merge-worst", "merge 1,016 and 1,016 nodes picked against the table: 6", None, || merge(nodes::of_one_start(2_032), &MANY)),
 ];
+
+/// The parts of a set that two files have, and what merging them answers.
+struct Files {
+    first: Range<usize>,
+    second: Range<usize>,
+    refusal: u8,
+}
+
+const HALVES: Files = Files {
+    first: 0..508,
+    second: 508..1_016,
+    refusal: 0,
+};
+const MANY: Files = Files {
+    first: 0..1_016,
+    second: 1_016..2_032,
+    refusal: 6,
+};
+const SAME: Files = Files {
+    first: 0..1_016,
+    second: 0..1_016,
+    refusal: 0,
+};
 
 impl Entry {
     pub fn work(&self) -> Work {
@@ -58,6 +94,8 @@ pub struct Work {
     /// How many passes are to be counted: enough for what is left of the setup to vanish.
     pub passes: u64,
     kind: Kind,
+    /// What a pass answers; 0 for accepted.
+    refusal: u8,
     mesh: Mesh,
     tables: Owned,
     numbers: Vec<u32>,
@@ -71,6 +109,8 @@ enum Kind {
     Locate(Vec<Position>),
     Read,
     Write,
+    /// Two files.
+    Merge([Vec<u8>; 2]),
 }
 
 /// What a pass leaves, to be compared.
@@ -83,6 +123,7 @@ fn list(set: Set) -> Work {
         units: set.nodes.len(),
         passes: 1,
         kind: Kind::List(set),
+        refusal: 0,
         mesh: Mesh::default(),
         tables: Owned::largest(),
         numbers: vec![],
@@ -104,10 +145,26 @@ fn call(kind: Kind) -> Work {
         },
         passes: 20,
         kind,
+        refusal: 0,
         mesh,
         tables,
         numbers: vec![0; 3 * NODE_LIMIT],
-        bytes: plain::nodefile::encode(sides, &nodes),
+        bytes: encode(sides, &nodes),
+    }
+}
+
+fn merge(Set { sides, nodes }: Set, files: &Files) -> Work {
+    let file = |part: &Range<usize>| encode(sides, &nodes[part.clone()]);
+    Work {
+        unit: "call",
+        units: 1,
+        passes: 20,
+        kind: Kind::Merge([file(&files.first), file(&files.second)]),
+        refusal: files.refusal,
+        mesh: Mesh::default(),
+        tables: Owned::with_room(0, 0),
+        numbers: vec![],
+        bytes: vec![0; 12 * NODE_LIMIT + 20],
     }
 }
 
@@ -135,13 +192,18 @@ impl Work {
             }
             Kind::Read => Answer::Read(build.read_nodes(&self.bytes, &mut self.numbers)),
             Kind::Write => Answer::Written(build.write_nodes(mesh, tables, &mut self.bytes)),
+            Kind::Merge([first, second]) => {
+                Answer::Written(build.merge(first, second, &mut self.bytes))
+            }
         }
     }
 
-    /// One pass from cleared tables, and all that it leaves.
+    /// One pass from cleared tables or a cleared output, and all that it leaves.
     pub fn left(&mut self, build: &dyn Builder) -> Left {
-        if let Kind::List(_) = self.kind {
-            self.tables = Owned::largest();
+        match self.kind {
+            Kind::List(_) => self.tables = Owned::largest(),
+            Kind::Merge(_) => self.bytes.fill(0),
+            _ => {}
         }
         let answer = self.pass(build);
         Left(
@@ -152,15 +214,8 @@ impl Work {
         )
     }
 
-    /// Was every node, call or file accepted?
-    pub fn is_accepted(left: &Left) -> bool {
-        match left.0 {
-            Answer::Listed(listed) => listed.refusal == 0,
-            Answer::Checked(yes) => yes,
-            Answer::Located(located) => located.refusal == 0,
-            Answer::Read(read) => read.refusal == 0,
-            Answer::Written(written) => written.refusal == 0,
-            _ => false,
-        }
+    /// Was every node, call or file accepted, or refused where it is to be?
+    pub fn is_answered(&self, left: &Left) -> bool {
+        left.0.outcome() == self.refusal
     }
 }

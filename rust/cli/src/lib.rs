@@ -1,5 +1,5 @@
-//! The command `gantry`. The cells, the mesh check, the located cell, the volumes and the node files that are read and
-//! written come from the proved archive; reading text and listings, explaining a check and drawing are this crate's own.
+//! The command `gantry`. The cells, the mesh check, the located cell, the volumes and the node files that are read, merged
+//! and written come from the proved archive; reading text and listings, explaining a check and drawing are this crate's own.
 
 pub mod check;
 pub mod commands;
@@ -80,6 +80,11 @@ pub fn spaced([x, y, z]: Position) -> String {
 /// Does a position lie outside the box of these sides?
 pub fn is_outside(sides: Position, p: Position) -> bool {
     (0..3).any(|axis| p[axis] > sides[axis])
+}
+
+/// Is a position a corner of the box of these sides?
+pub fn is_corner(sides: Position, p: Position) -> bool {
+    (0..3).all(|axis| p[axis] == 0 || p[axis] == sides[axis])
 }
 
 /// ` of line 7`, of a box that was read from there.

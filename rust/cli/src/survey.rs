@@ -1,5 +1,6 @@
 //! The nodes of a file, and their mesh.
 
+use std::borrow::Cow;
 use std::ffi::OsStr;
 
 use gantry::{Mesh, NodeFile, Position, Refusal, Stopped, CELL_LIMIT};
@@ -19,8 +20,8 @@ pub struct Survey {
     box_line: Option<usize>,
     lines: Vec<usize>,
     pub notes: Vec<String>,
-    /// How many bytes a node file has.
-    pub length: Option<usize>,
+    /// The bytes of a node file.
+    pub file: Option<Vec<u8>>,
 }
 
 /// A survey's mesh: all its nodes, or those before the first that was refused.
@@ -33,7 +34,7 @@ impl Survey {
     pub fn read(word: &OsStr, reading: Reading) -> Result<Survey, Failure> {
         let source = Source::read(word)?;
         match source.kind() {
-            Kind::Nodes(file) => Survey::of_node_file(&source, file, reading),
+            Kind::Nodes(file) => Survey::of_node_file(source, file, reading),
             Kind::RefusedNodes(refusal) => Err(source.refused(refusal)),
             Kind::Listing => Err(source.failure(
                 "a listing, which has no coordinates; name its node file (and by --listing the listing)",
@@ -42,22 +43,19 @@ impl Survey {
         }
     }
 
-    fn of_node_file(source: &Source, file: NodeFile, reading: Reading) -> Result<Survey, Failure> {
-        if reading.leave_out {
-            return Err(source.failure("a node file, and --leave-out is for text; see gantry text"));
-        }
+    fn of_node_file(source: Source, file: NodeFile, reading: Reading) -> Result<Survey, Failure> {
         if reading.sides.is_some_and(|sides| sides != file.sides) {
             let sides = spaced(file.sides);
             return Err(source.failure(&format!("a node file of the box {sides}, not of --box")));
         }
         Ok(Survey {
-            name: source.name.clone(),
+            name: source.name,
             sides: file.sides,
             nodes: file.nodes,
             box_line: None,
             lines: Vec::new(),
             notes: Vec::new(),
-            length: Some(source.bytes.len()),
+            file: Some(source.bytes),
         })
     }
 
@@ -79,8 +77,16 @@ impl Survey {
             box_line: read.box_line,
             lines: read.lines,
             notes: named(read.notes),
-            length: None,
+            file: None,
         })
+    }
+
+    /// The node file itself, or one of the text's nodes.
+    pub fn node_file(&self) -> Cow<'_, [u8]> {
+        match &self.file {
+            Some(file) => Cow::Borrowed(file),
+            None => Cow::Owned(encode(self.sides, &self.nodes)),
+        }
     }
 
     /// In a line: the box, where it was taken from, and how many nodes there are.
@@ -102,12 +108,10 @@ impl Survey {
     /// Which node did not go in, and why.
     pub fn complaint(&self, Built { mesh, stopped }: &Built) -> Option<String> {
         let Stopped { place, refusal } = (*stopped)?;
-        let node = self.nodes[place];
-        let line = self.lines.get(place).map(|line| format!("line {line}: "));
         let cells = mesh.cells().len();
         let why = match refusal {
             Refusal::Outside => format!("the box is {}", spaced(self.sides)),
-            Refusal::Taken => taken_by(mesh, node),
+            Refusal::Taken => taken_by(mesh, self.nodes[place]),
             Refusal::CellsFull => {
                 let limit = grouped(CELL_LIMIT);
                 let before = counted(place, "node");
@@ -115,14 +119,24 @@ impl Survey {
             }
             _ => refusal.when().to_string(),
         };
-        Some(format!(
-            "{}: {}place {place}: node {} did not go in: {}",
-            self.name,
-            line.unwrap_or_default(),
-            spaced(node),
-            because(refusal, &why)
-        ))
+        let (node, why) = (self.node_at(place), because(refusal, &why));
+        Some(format!("{node} did not go in: {why}"))
     }
+
+    /// For a message: the node at a place, and where it was read.
+    pub fn node_at(&self, place: usize) -> String {
+        let line = self.lines.get(place).map(|line| format!("line {line}: "));
+        let (line, node) = (line.unwrap_or_default(), spaced(self.nodes[place]));
+        format!("{}: {line}place {place}: node {node}", self.name)
+    }
+}
+
+/// A node file without a note.
+fn encode(sides: Position, nodes: &[Position]) -> Vec<u8> {
+    let count = nodes.len() as u32;
+    let numbers = nodes.as_flattened().iter().copied();
+    let trailer = sides.into_iter().chain([count, 12 * count]);
+    numbers.chain(trailer).flat_map(u32::to_le_bytes).collect()
 }
 
 fn taken_by(mesh: &Mesh, node: Position) -> String {

@@ -1,102 +1,18 @@
 //! The command as a user calls it: what it prints, what it says, its status, and the files that it leaves.
 
+mod common;
+
 use std::fs;
-use std::io::Write;
-use std::path::{Path, PathBuf};
+use std::path::Path;
 use std::process::{Command, Stdio};
 
+use common::{Place, GANTRY};
 use plain::nodefile::encode;
 use plain::random::Random;
 
-const GANTRY: &str = env!("CARGO_BIN_EXE_gantry");
-const COMMANDS: [&str; 9] = [
-    "nodes", "text", "list", "check", "locate", "svg", "vtk", "volume", "sphere",
+const COMMANDS: [&str; 10] = [
+    "nodes", "text", "merge", "list", "check", "locate", "svg", "vtk", "volume", "sphere",
 ];
-
-/// A directory of a test's own.
-struct Place(PathBuf);
-
-impl Place {
-    fn new(name: &str) -> Place {
-        let path = std::env::temp_dir().join(format!("gantry-{name}-{}", std::process::id()));
-        fs::create_dir(&path).expect("a temporary directory");
-        Place(path)
-    }
-
-    fn put(&self, name: &str, bytes: impl AsRef<[u8]>) -> &Place {
-        fs::write(self.0.join(name), bytes).expect("a file");
-        self
-    }
-
-    fn bytes(&self, name: &str) -> Vec<u8> {
-        fs::read(self.0.join(name)).expect("a file")
-    }
-
-    fn names(&self) -> Vec<String> {
-        let entries = fs::read_dir(&self.0).expect("a directory");
-        let name = |entry: std::io::Result<fs::DirEntry>| entry.unwrap().file_name();
-        let mut names: Vec<String> = entries
-            .map(|entry| name(entry).into_string().unwrap())
-            .collect();
-        names.sort();
-        names
-    }
-
-    /// The command line, and what is on standard input.
-    fn run(&self, line: &str, input: &[u8]) -> Ran {
-        let mut child = Command::new(GANTRY)
-            .args(line.split_whitespace())
-            .current_dir(&self.0)
-            .stdin(Stdio::piped())
-            .stdout(Stdio::piped())
-            .stderr(Stdio::piped())
-            .spawn()
-            .expect("the program starts");
-        let mut stdin = child.stdin.take().expect("its standard input is open");
-        // Wrong words are told before input is read.
-        let _ = stdin.write_all(input);
-        drop(stdin);
-        let output = child.wait_with_output().expect("the program ends");
-        Ran {
-            status: output.status.code(),
-            output: output.stdout,
-            said: String::from_utf8(output.stderr).expect("text"),
-        }
-    }
-}
-
-impl Drop for Place {
-    fn drop(&mut self) {
-        let _ = fs::remove_dir_all(&self.0);
-    }
-}
-
-struct Ran {
-    status: Option<i32>,
-    output: Vec<u8>,
-    said: String,
-}
-
-impl Ran {
-    #[track_caller]
-    fn done(self) -> String {
-        self.done_with("")
-    }
-
-    /// With these messages.
-    #[track_caller]
-    fn done_with(self, said: &str) -> String {
-        assert_eq!((self.status, &self.said[..]), (Some(0), said));
-        String::from_utf8(self.output).expect("text")
-    }
-
-    /// Nothing is written, and the messages are these.
-    #[track_caller]
-    fn refused(self, status: i32, said: &str) {
-        assert_eq!((self.status, &self.said[..]), (Some(status), said));
-        assert!(self.output.is_empty());
-    }
-}
 
 #[test]
 fn help_and_version() {

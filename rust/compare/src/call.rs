@@ -1,5 +1,7 @@
 //! One call with all that it is lent, and what it leaves.
 
+use std::ops::Range;
+
 use plain::{
     Answers, Inserted, Listed, Located, Mesh, Position, Read, Sphere, Started, Written,
     OUT_OF_RANGE,
@@ -23,6 +25,23 @@ pub enum Call {
     ReadNodes(Vec<u8>, usize),
     /// How many bytes the lent output has.
     WriteNodes(usize),
+    Merge(Merge),
+}
+
+/// Two node files as parts of one area, so that they may overlap, and how many bytes the lent output has.
+#[derive(Clone, Debug)]
+pub struct Merge {
+    pub area: Vec<u8>,
+    pub first: Range<usize>,
+    pub second: Range<usize>,
+    pub room: usize,
+}
+
+impl Merge {
+    /// The two files in the area, or in a copy of it.
+    pub fn files<'a>(&self, area: &'a [u8]) -> [&'a [u8]; 2] {
+        [&area[self.first.clone()], &area[self.second.clone()]]
+    }
 }
 
 #[derive(Clone, Copy, Debug, PartialEq)]
@@ -78,12 +97,20 @@ impl Answer {
     }
 }
 
-/// What a call leaves: the answer, the tables, the output, and the lent input.
+/// What a call leaves: the answer, the tables, and what else it was lent.
 pub struct Left {
     pub answer: Answer,
     pub tables: GuardedTables,
+    pub others: Others,
+}
+
+/// What is lent beside the tables.
+pub struct Others {
+    /// A list of nodes, or an output.
     pub numbers: Guarded<u32>,
-    pub bytes: Guarded<u8>,
+    /// Only read: answers or files.
+    pub input: Guarded<u8>,
+    pub output: Guarded<u8>,
 }
 
 /// What an output holds before the call.
@@ -103,56 +130,84 @@ impl Call {
             Call::Check => "check",
             Call::ReadNodes(..) => "read_nodes",
             Call::WriteNodes(_) => "write_nodes",
+            Call::Merge(_) => "merge",
         }
     }
 
     pub fn make(&self, builder: &dyn Builder, mesh: Mesh, tables: &GuardedTables) -> Left {
         let mut tables = tables.clone();
-        let (mut numbers, mut bytes) = self.other_slices();
+        let mut others = self.others();
+        let answer = self.answer(builder, mesh, &mut tables, &mut others);
+        Left {
+            answer,
+            tables,
+            others,
+        }
+    }
+
+    fn answer(
+        &self,
+        builder: &dyn Builder,
+        mesh: Mesh,
+        tables: &mut GuardedTables,
+        others: &mut Others,
+    ) -> Answer {
         let lent = &mut tables.lend();
-        let answer = match *self {
+        let Others {
+            numbers,
+            input,
+            output,
+        } = others;
+        match *self {
             Call::Volume6(twelve) => Answer::Volume(builder.volume6(twelve)),
             Call::SphereTest(corners, p) => Answer::Sphere(builder.sphere_test(corners, p)),
             Call::Start(sides) => Answer::Started(builder.start(sides, lent)),
             Call::Insert(p) => Answer::Inserted(builder.insert(mesh, lent, Answers::Float, p)),
             Call::InsertAnswers(_, p) => {
-                let answers = Answers::Given(bytes.lent());
+                let answers = Answers::Given(input.lent());
                 Answer::Inserted(builder.insert(mesh, lent, answers, p))
             }
             Call::InsertList(_) => Answer::Listed(builder.insert_list(mesh, lent, numbers.lent())),
             Call::Locate(p) => Answer::Located(builder.locate(mesh, lent, p)),
             Call::Check => Answer::Checked(builder.check(mesh, lent)),
-            Call::ReadNodes(..) => Answer::Read(builder.read_nodes(bytes.lent(), numbers.lend())),
-            Call::WriteNodes(_) => Answer::Written(builder.write_nodes(mesh, lent, bytes.lend())),
-        };
-        Left {
-            answer,
-            tables,
-            numbers,
-            bytes,
+            Call::ReadNodes(..) => Answer::Read(builder.read_nodes(input.lent(), numbers.lend())),
+            Call::WriteNodes(_) => Answer::Written(builder.write_nodes(mesh, lent, output.lend())),
+            Call::Merge(ref merge) => {
+                let [first, second] = merge.files(input.lent());
+                Answer::Written(builder.merge(first, second, output.lend()))
+            }
         }
     }
 
-    /// The numbers and bytes that are lent beside the tables, as input or output.
-    fn other_slices(&self) -> (Guarded<u32>, Guarded<u8>) {
-        let (numbers, bytes) = match self {
-            Call::InsertAnswers(answers, _) => (vec![], answers.clone()),
-            Call::InsertList(nodes) => (nodes.clone(), vec![]),
-            Call::ReadNodes(file, room) => (vec![FILLED as u32; *room], file.clone()),
-            Call::WriteNodes(room) => (vec![], vec![FILLED; *room]),
-            _ => (vec![], vec![]),
+    fn others(&self) -> Others {
+        let (numbers, room) = match self {
+            Call::InsertList(nodes) => (nodes.clone(), 0),
+            Call::ReadNodes(_, room) => (vec![FILLED as u32; *room], 0),
+            Call::WriteNodes(room) | Call::Merge(Merge { room, .. }) => (vec![], *room),
+            _ => (vec![], 0),
         };
-        (
-            Guarded::new(&numbers, 0x5A5A_5A5A),
-            Guarded::new(&bytes, 0x5A),
-        )
+        Others {
+            numbers: Guarded::new(&numbers, 0x5A5A_5A5A),
+            input: Guarded::new(self.input(), 0x5A),
+            output: Guarded::new(&vec![FILLED; room], 0x5A),
+        }
+    }
+
+    /// Bytes that are only read.
+    pub fn input(&self) -> &[u8] {
+        match self {
+            Call::InsertAnswers(answers, _) => answers,
+            Call::ReadNodes(file, _) => file,
+            Call::Merge(merge) => &merge.area,
+            _ => &[],
+        }
     }
 
     /// Is the work area lent to this call?
     pub fn is_on_tables(&self) -> bool {
         !matches!(
             self,
-            Call::Volume6(_) | Call::SphereTest(..) | Call::ReadNodes(..)
+            Call::Volume6(_) | Call::SphereTest(..) | Call::ReadNodes(..) | Call::Merge(_)
         )
     }
 }

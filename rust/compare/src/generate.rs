@@ -4,6 +4,7 @@ use plain::random::Random;
 use plain::{Mesh, Owned, Position, CELL_LIMIT, NONE, POINT_LIMIT, SIDE_LIMIT};
 
 use crate::call::{Call, Left};
+use crate::merges;
 use crate::nodes::{self, Spread};
 
 /// One call and what it is lent.
@@ -90,16 +91,17 @@ impl History {
 
     fn call(&self, random: &mut Random) -> Call {
         let p = self.node(random);
-        match random.below(40) {
+        match random.below(42) {
             0 => Call::Start(nodes::any_sides(random)),
             1 => Call::Volume6(twelve(random)),
             2..4 => sphere_test(random),
             4..6 => read(random),
             6..8 => self.write(random),
-            8..10 => Call::Check,
-            10..13 => Call::Locate(p),
-            13..17 => self.list(random),
-            17..26 => Call::Insert(p),
+            8..10 => Call::Merge(merges::merge(random)),
+            10..12 => Call::Check,
+            12..15 => Call::Locate(p),
+            15..19 => self.list(random),
+            19..28 => Call::Insert(p),
             _ => Call::InsertAnswers(nodes::answers(random, self.mesh.cells as usize), p),
         }
     }

@@ -164,10 +164,24 @@ pub fn file(random: &mut Random) -> Vec<u8> {
     let nodes: Vec<Position> = (0..count)
         .map(|_| [0; 3].map(|_| random.bits() as u32))
         .collect();
+    let mut file = noted(random, sides, &nodes);
+    if random.one_in(2) {
+        damage_file(random, &mut file);
+    }
+    file
+}
+
+/// A node file, now and then with a note in front.
+pub fn noted(random: &mut Random, sides: Position, nodes: &[Position]) -> Vec<u8> {
     let note = (0..random.pick(&[0, 0, 1, 7, 40])).map(|_| random.bits() as u8);
     let mut file: Vec<u8> = note.collect();
-    file.extend(encode(sides, &nodes));
-    match random.below(8) {
+    file.extend(encode(sides, nodes));
+    file
+}
+
+/// Cut at either end, with a byte of the trailer changed, or a byte too long.
+pub fn damage_file(random: &mut Random, file: &mut Vec<u8>) {
+    match random.below(4) {
         0 => file.truncate(random.index(file.len() + 1)),
         1 => {
             let place = file.len() - 1 - random.index(20);
@@ -176,8 +190,6 @@ pub fn file(random: &mut Random) -> Vec<u8> {
         2 => {
             file.drain(..random.index(file.len() + 1));
         }
-        3 => file.push(random.bits() as u8),
-        _ => {}
+        _ => file.push(random.bits() as u8),
     }
-    file
 }

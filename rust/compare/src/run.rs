@@ -69,6 +69,12 @@ fn describe(step: &Step) -> String {
                 file.len()
             )
         }
+        Call::Merge(merge) => format!(
+            "merge files of {} and {} bytes, room for {} bytes",
+            merge.first.len(),
+            merge.second.len(),
+            merge.room
+        ),
         call => format!("{call:?}"),
     };
     let tables = &step.tables;

@@ -2,6 +2,7 @@
 
 use plain::listing::cells;
 use plain::loaded::Cell;
+use plain::nodefile::encode;
 use plain::{Answers, Inserted, Mesh, Owned, Position, NONE};
 
 use crate::builders::Builder;
@@ -23,6 +24,8 @@ pub enum Line {
     Answers(Vec<u8>, Position),
     /// `check`
     Check,
+    /// `merge 1 2 3 2 2 2 and 1 2 3`: two files of the box, with these nodes.
+    Merge([Vec<Position>; 2]),
     /// `cell 0 0 1 3 7 - 1 5 -`: no call, but a cell put into the tables, as a listing has it.
     Cell(u16, Cell),
 }
@@ -73,17 +76,30 @@ fn cell(words: &[&str]) -> Result<Line, String> {
     Ok(Line::Cell(number(place)?, cell))
 }
 
+fn positions(words: &[&str]) -> Result<Vec<Position>, String> {
+    words.chunks(3).map(position).collect()
+}
+
+fn merge(words: &[&str]) -> Result<Line, String> {
+    let files: Vec<_> = words.split(|&word| word == "and").collect();
+    match files[..] {
+        [first, second] => Ok(Line::Merge([positions(first)?, positions(second)?])),
+        _ => Err("not two files with 'and' between them".to_string()),
+    }
+}
+
 fn line(text: &str, room: u16) -> Result<Line, String> {
     let words: Vec<&str> = text.split_whitespace().collect();
     match words[..] {
         ["sphere", ref node @ ..] => Ok(Line::Sphere(position(node)?)),
         ["answers", bytes, ref node @ ..] => Ok(Line::Answers(digits(bytes)?, position(node)?)),
         ["check"] => Ok(Line::Check),
+        ["merge", ref files @ ..] => merge(files),
         ["cell", ref entries @ ..] => match cell(entries)? {
             Line::Cell(place, _) if place >= room => Err(format!("no room for a cell {place}")),
             cell => Ok(cell),
         },
-        _ => Err("not a line of 'sphere', 'answers', 'check' or 'cell'".to_string()),
+        _ => Err("not a line of 'sphere', 'answers', 'check', 'merge' or 'cell'".to_string()),
     }
 }
 
@@ -101,6 +117,25 @@ fn said(answer: Inserted) -> String {
         0 => format!("point {point} before {before} after {after} made {made} least {least}\n"),
         number => format!("refused {number}\n"),
     }
+}
+
+/// The nodes of the merged file, or the refusal.
+fn merged(build: &dyn Builder, sides: Position, files: &[Vec<Position>; 2]) -> String {
+    let [first, second] = files.each_ref().map(|nodes| encode(sides, nodes));
+    let mut file = vec![0; first.len() + second.len()];
+    let answer = build.merge(&first, &second, &mut file);
+    if answer.refusal != 0 {
+        return format!("refused {}\n", answer.refusal);
+    }
+    let mut numbers = vec![0; file.len() / 4];
+    let count = build
+        .read_nodes(&file[..answer.bytes as usize], &mut numbers)
+        .count;
+    let nodes = &numbers[..3 * count as usize];
+    format!(
+        "merged{}\n",
+        nodes.iter().map(|n| format!(" {n}")).collect::<String>()
+    )
 }
 
 impl Script {
@@ -140,6 +175,7 @@ impl Line {
                 let is_mesh = build.check(*mesh, &mut tables.lend());
                 return format!("check {}\n", if is_mesh { "yes" } else { "no" });
             }
+            Line::Merge(files) => return merged(build, mesh.sides(), files),
             Line::Cell(place, cell) => {
                 let entries = 4 * *place as usize..4 * *place as usize + 4;
                 tables.corners[entries.clone()].copy_from_slice(&cell.corners);

@@ -40,12 +40,14 @@ pub fn difference(left: &Left, right: &Left) -> Option<String> {
         ));
     }
     let (l, r) = (&left.tables, &right.tables);
+    let (lent, other) = (&left.others, &right.others);
     differs("points", &l.points, &r.points)
         .or_else(|| differs("corners", &l.corners, &r.corners))
         .or_else(|| differs("neighbours", &l.neighbours, &r.neighbours))
         .or_else(|| differs("work", &l.work, &r.work))
-        .or_else(|| differs("numbers", &left.numbers, &right.numbers))
-        .or_else(|| differs("bytes", &left.bytes, &right.bytes))
+        .or_else(|| differs("numbers", &lent.numbers, &other.numbers))
+        .or_else(|| differs("input", &lent.input, &other.input))
+        .or_else(|| differs("output", &lent.output, &other.output))
 }
 
 /// Of what both left alike.
@@ -83,13 +85,12 @@ fn wrong_work(call: &Call, before: &GuardedTables, left: &GuardedTables) -> Opti
 }
 
 fn wrong_input(call: &Call, left: &Left) -> Option<String> {
-    let changed = match call {
-        Call::InsertAnswers(answers, _) => left.bytes.lent() != answers,
-        Call::InsertList(nodes) => left.numbers.lent() != nodes,
-        Call::ReadNodes(file, _) => left.bytes.lent() != file,
+    let is_list_changed = match call {
+        Call::InsertList(nodes) => left.others.numbers.lent() != nodes,
         _ => false,
     };
-    changed.then(|| "input: written".to_string())
+    let is_changed = is_list_changed || left.others.input.lent() != call.input();
+    is_changed.then(|| "input: written".to_string())
 }
 
 fn unreachable_answer(call: &Call, left: &Left) -> Option<String> {

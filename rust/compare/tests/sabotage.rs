@@ -5,7 +5,7 @@ use plain::{
     Answers, Inserted, Listed, Located, Mesh, Position, Read, Sphere, Started, Tables, Written,
 };
 
-#[derive(Clone, Copy)]
+#[derive(Clone, Copy, PartialEq)]
 enum Harm {
     None,
     /// A work entry is left.
@@ -18,6 +18,8 @@ enum Harm {
     Record,
     /// A byte past the written file is cleared.
     Byte,
+    /// A byte past the merged file is cleared.
+    Merged,
     /// The list's place is one more.
     Place,
     /// A located cell is refused.
@@ -33,6 +35,12 @@ impl Harmed {
             Harm::Work => tables.work.iter_mut().rev().take(1).for_each(|w| *w = 1),
             Harm::Corner => tables.corners.iter_mut().rev().take(1).for_each(|c| *c = 0),
             _ => {}
+        }
+    }
+
+    fn harm_output(&self, harm: Harm, answer: Written, out: &mut [u8]) {
+        if self.0 == harm && out.len() > answer.bytes as usize {
+            out[answer.bytes as usize] = 0;
         }
     }
 }
@@ -89,9 +97,13 @@ impl Builder for Harmed {
 
     fn write_nodes(&self, mesh: Mesh, tables: &mut Tables, out: &mut [u8]) -> Written {
         let answer = Tuned.write_nodes(mesh, tables, out);
-        if matches!(self.0, Harm::Byte) && out.len() > answer.bytes as usize {
-            out[answer.bytes as usize] = 0;
-        }
+        self.harm_output(Harm::Byte, answer, out);
+        answer
+    }
+
+    fn merge(&self, first: &[u8], second: &[u8], out: &mut [u8]) -> Written {
+        let answer = Tuned.merge(first, second, out);
+        self.harm_output(Harm::Merged, answer, out);
         answer
     }
 }
@@ -107,7 +119,8 @@ fn every_harm_is_found() {
         (Harm::Corner, "corners["),
         (Harm::Sign, "answer: "),
         (Harm::Record, "answer: "),
-        (Harm::Byte, "bytes["),
+        (Harm::Byte, "output["),
+        (Harm::Merged, "output["),
         (Harm::Place, "answer: "),
     ];
     for (harm, what) in cases {

@@ -62,7 +62,7 @@ mod refusal;
 
 pub use geometry::{sphere_test, volume6, SphereAnswer};
 pub use mesh::{Cell, Mesh, Report, Room};
-pub use nodefile::{read_nodes, NodeFile};
+pub use nodefile::{merge, read_nodes, NodeFile};
 pub use refusal::{Refusal, Stopped};
 
 /// Three coordinates.

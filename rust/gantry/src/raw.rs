@@ -198,6 +198,10 @@ unsafe extern "C" {
         neighbours: *mut u16, neighbours_len: usize, work: *mut u16, work_len: usize,
         out: *mut u8, out_len: usize,
     ) -> Written;
+    fn gantry_merge(
+        first: *const u8, first_len: usize, second: *const u8, second_len: usize,
+        out: *mut u8, out_len: usize,
+    ) -> Written;
 }
 
 /// A call on tables: its words before them, the tables, its words after them.
@@ -278,6 +282,22 @@ pub fn read_nodes(file: &[u8], nodes: &mut [u32]) -> Read {
 /// `gantry_write_nodes`: the nodes of a mesh as a node file. Refusals 1 2 3 10.
 pub fn write_nodes(mesh: Record, tables: &mut Tables, out: &mut [u8]) -> Written {
     call!(gantry_write_nodes(mesh; tables; out.as_mut_ptr(), out.len()))
+}
+
+/// `gantry_merge`: two node files of one box as one, without a note; the two may be one slice. Refusals 9 2 of the first,
+/// 9 2 of the second, then 19 4 6 10.
+pub fn merge(first: &[u8], second: &[u8], out: &mut [u8]) -> Written {
+    // SAFETY: as in `call`; the two files are only read, so they may overlap.
+    unsafe {
+        gantry_merge(
+            first.as_ptr(),
+            first.len(),
+            second.as_ptr(),
+            second.len(),
+            out.as_mut_ptr(),
+            out.len(),
+        )
+    }
 }
 
 /// The layouts; `tests/layout.c` asks the same of `gantry.h`.

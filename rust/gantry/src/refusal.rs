@@ -52,17 +52,18 @@ refusals! {
         "The tables of a [`Mesh`](crate::Mesh) never do.";
     Outside = 4, "outside", "a position outside the box; in the sphere test, a coordinate above 131,072";
     Taken = 5, "taken", "a point is already there";
-    PointsFull = 6, "points full", "there is no room for a further point";
+    PointsFull = 6, "points full", "there is no room for a further point; in a merge, more than 1,016 nodes are left";
     Unheld = 7, "unheld", "no cell holds the position",
         "Never answered: proved as `never-seven` in `crates/covering`. The number stays in the table.";
     CellsFull = 8, "cells full", "the old cells and the new ones together exceed the room for cells";
     Trailer = 9, "trailer", "a file under 20 bytes, or a wrong count or distance in its trailer";
     NoPlace = 10, "no place", "the output is shorter than what is to be written";
     FlatCell = 11, "flat cell", "a sphere test on a cell of volume 0 or less";
+    UnequalSides = 19, "unequal sides", "the boxes of two files to be merged differ in a side";
 }
 
 impl Refusal {
-    /// The table's number, 1 to 11.
+    /// The table's number.
     pub fn number(self) -> u8 {
         self as u8
     }

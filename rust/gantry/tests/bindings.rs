@@ -1,7 +1,10 @@
 //! The bindings over the archive: what a caller of the C interface would see, in Rust's words.
 
-use gantry::{read_nodes, sphere_test, volume6};
-use gantry::{Mesh, Position, Refusal, Room, SphereAnswer, Stopped, CELL_LIMIT, POINT_LIMIT};
+use gantry::{merge, raw, read_nodes, sphere_test, volume6};
+use gantry::{
+    Mesh, NodeFile, Position, Refusal, Room, SphereAnswer, Stopped, CELL_LIMIT, NODE_LIMIT,
+    POINT_LIMIT,
+};
 
 fn lattice(parts: u32, spacing: u32) -> Vec<Position> {
     let last = parts - 1;
@@ -15,14 +18,15 @@ fn lattice(parts: u32, spacing: u32) -> Vec<Position> {
 #[test]
 fn numbers_and_names_are_the_table_s() {
     let names = Refusal::ALL.map(Refusal::name);
-    let table = "short, box, no mesh, outside, taken, points full, unheld, cells full, trailer, no place, flat cell";
+    let table = "short, box, no mesh, outside, taken, points full, unheld, cells full, trailer, no place, flat cell, \
+                 unequal sides";
     assert_eq!(names.join(", "), table);
-    for (place, refusal) in Refusal::ALL.into_iter().enumerate() {
-        assert_eq!(refusal.number() as usize, place + 1);
-        assert_eq!(Refusal::from_number(refusal.number()), Some(refusal));
+    let numbers = Refusal::ALL.map(Refusal::number);
+    assert_eq!(numbers, [1, 2, 3, 4, 5, 6, 7, 8, 9, 10, 11, 19]);
+    for number in 0..=u8::MAX {
+        let refusal = Refusal::ALL.into_iter().find(|r| r.number() == number);
+        assert_eq!(Refusal::from_number(number), refusal);
     }
-    assert_eq!(Refusal::from_number(0), None);
-    assert_eq!(Refusal::from_number(12), None);
 }
 
 #[test]
@@ -142,4 +146,63 @@ fn files_that_are_refused() {
     assert_eq!(read_nodes(&[0; 19]), Err(Refusal::Trailer));
     assert_eq!(read_nodes(&[0; 20]), Err(Refusal::Box));
     assert_eq!(read_nodes(&[]), Err(Refusal::Trailer));
+}
+
+/// A node file, as the documents have it.
+fn file(sides: Position, nodes: &[Position]) -> Vec<u8> {
+    let count = nodes.len() as u32;
+    let numbers = nodes.iter().flatten().chain(&sides);
+    let trailer = [count, 12 * count];
+    let numbers = numbers.chain(&trailer);
+    numbers.flat_map(|n| n.to_le_bytes()).collect()
+}
+
+#[test]
+fn two_files_in_one() {
+    let [p, q, r] = [[1, 2, 3], [2, 2, 0], [3, 1, 1]];
+    let first = file([4; 3], &[p, [4; 3], q, p]);
+    let second = [b"a note", &file([4; 3], &[r, q, [0; 3]])[..]].concat();
+    let both = merge(&first, &second).unwrap();
+    assert_eq!(both, file([4; 3], &[p, q, r]));
+    let expected = NodeFile {
+        sides: [4; 3],
+        nodes: vec![p, q, r],
+    };
+    assert_eq!(read_nodes(&both), Ok(expected));
+    assert_eq!(merge(&second, &first), Ok(file([4; 3], &[r, q, p])));
+    assert_eq!(merge(&both, &both).as_ref(), Ok(&both));
+    assert_eq!(merge(&first, &first), Ok(file([4; 3], &[p, q])));
+}
+
+#[test]
+fn merges_that_are_refused() {
+    let good = file([4; 3], &[[1, 2, 3]]);
+    let flat = file([4, 0, 4], &[]);
+    assert_eq!(merge(&good[1..], &flat), Err(Refusal::Trailer));
+    assert_eq!(merge(&flat, &good[1..]), Err(Refusal::Box));
+    assert_eq!(merge(&good, &good[1..]), Err(Refusal::Trailer));
+    assert_eq!(merge(&good, &flat), Err(Refusal::Box));
+    let other = file([4, 5, 4], &[[9; 3]]);
+    assert_eq!(merge(&good, &other), Err(Refusal::UnequalSides));
+    let outside = file([4; 3], &[[1, 5, 1]]);
+    assert_eq!(merge(&good, &outside), Err(Refusal::Outside));
+    assert_eq!(merge(&outside, &good), Err(Refusal::Outside));
+    let row: Vec<Position> = (1..=1_017).map(|k| [k, 2, 2]).collect();
+    let [full, last] =
+        [&row[..NODE_LIMIT], &row[NODE_LIMIT..]].map(|nodes| file([2_000; 3], nodes));
+    assert_eq!(merge(&full, &full).as_ref(), Ok(&full));
+    assert_eq!(merge(&full, &last), Err(Refusal::PointsFull));
+}
+
+/// Only the raw call is lent an output.
+#[test]
+fn a_merge_writes_all_or_nothing() {
+    let [first, second] = [[1, 2, 3], [2, 2, 0]].map(|p| file([4; 3], &[p]));
+    let both = file([4; 3], &[[1, 2, 3], [2, 2, 0]]);
+    let mut out = [7; 50];
+    let short = raw::merge(&first, &second, &mut out[..43]);
+    assert_eq!((short.refusal, short.bytes, out), (10, 0, [7; 50]));
+    let written = raw::merge(&first, &second, &mut out);
+    assert_eq!((written.refusal, written.bytes), (0, 44));
+    assert_eq!((&out[..44], &out[44..]), (&both[..], &[7; 6][..]));
 }

@@ -64,6 +64,7 @@ gantry_located gantry_locate(gantry_mesh, TABLES, POSITION);
 bool gantry_check(gantry_mesh, TABLES);
 gantry_read gantry_read_nodes(const uint8_t *, size_t, uint32_t *, size_t);
 gantry_written gantry_write_nodes(gantry_mesh, TABLES, uint8_t *, size_t);
+gantry_written gantry_merge(const uint8_t *, size_t, const uint8_t *, size_t, uint8_t *, size_t);
 #ifdef __cplusplus
 }
 #endif

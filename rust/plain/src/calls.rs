@@ -186,3 +186,9 @@ pub struct Written {
     pub refusal: u8,
     pub bytes: u32,
 }
+
+impl Written {
+    pub fn refused(refusal: u8) -> Written {
+        Written { refusal, bytes: 0 }
+    }
+}

@@ -2,11 +2,11 @@
 
 use crate::calls::{in_box, sides_in_range, Mesh, Tables};
 use crate::loaded::{box_corner, others, Loaded};
-use crate::rules::{Document01, Rules};
+use crate::rules::{RightRules, Rules};
 
 /// The mesh check: yes or no, for all input.
 pub fn check(mesh: Mesh, tables: &mut Tables) -> bool {
-    check_with(&Document01, mesh, tables)
+    check_with(&RightRules, mesh, tables)
 }
 
 pub fn check_with(rules: &dyn Rules, mesh: Mesh, tables: &mut Tables) -> bool {

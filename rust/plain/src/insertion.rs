@@ -5,19 +5,19 @@ pub use crate::cavity::Answers;
 use crate::cavity::Cavity;
 use crate::check::mesh_refusal;
 use crate::loaded::{Cell, Loaded};
-use crate::rules::{Document01, Rules};
+use crate::rules::{RightRules, Rules};
 use crate::star::star;
 
 pub fn insert(mesh: Mesh, tables: &mut Tables, p: Position) -> Inserted {
-    insert_with(&Document01, mesh, tables, Answers::Float, p)
+    insert_with(&RightRules, mesh, tables, Answers::Float, p)
 }
 
 pub fn insert_answers(mesh: Mesh, tables: &mut Tables, answers: &[u8], p: Position) -> Inserted {
-    insert_with(&Document01, mesh, tables, Answers::Given(answers), p)
+    insert_with(&RightRules, mesh, tables, Answers::Given(answers), p)
 }
 
 pub fn insert_list(mesh: Mesh, tables: &mut Tables, nodes: &[u32]) -> Listed {
-    insert_list_with(&Document01, mesh, tables, nodes)
+    insert_list_with(&RightRules, mesh, tables, nodes)
 }
 
 /// One insertion, by the right rules or wrong ones.

@@ -1,6 +1,6 @@
-//! An obvious build of document 01: each call loads the lent tables into lists, works on those, and stores the result.
-//! Nothing here is made fast; it is written to be compared with. A call named `_with` takes the rules that a wrong build
-//! overrides; the others go by the right ones.
+//! An obvious build of document 01, with the requests of document 02 that have landed: each call loads the lent tables into
+//! lists, works on those, and stores the result. Nothing here is made fast; it is written to be compared with. A call named
+//! `_with` takes the rules that a wrong build overrides; the others go by the right ones.
 
 pub mod calls;
 pub mod cavity;
@@ -9,6 +9,7 @@ pub mod geometry;
 pub mod insertion;
 pub mod listing;
 pub mod loaded;
+pub mod merge;
 pub mod nodefile;
 pub mod random;
 pub mod rules;
@@ -19,8 +20,9 @@ pub use check::{check, check_with};
 pub use geometry::{sphere_test, volume6, OUT_OF_RANGE};
 pub use insertion::{insert, insert_answers, insert_list, insert_list_with, insert_with, Answers};
 pub use listing::listing;
+pub use merge::{merge, merge_with};
 pub use nodefile::{read_nodes, write_nodes, write_nodes_with};
-pub use rules::{Document01, Rules};
+pub use rules::{RightRules, Rules};
 
 use loaded::{Loaded, STARTED_CORNERS};
 
@@ -58,7 +60,7 @@ fn started(sides: Position, tables: &mut Tables) -> Started {
 
 /// The lowest-numbered cell that holds the position.
 pub fn locate(mesh: Mesh, tables: &mut Tables, p: Position) -> Located {
-    locate_with(&Document01, mesh, tables, p)
+    locate_with(&RightRules, mesh, tables, p)
 }
 
 pub fn locate_with(rules: &dyn Rules, mesh: Mesh, tables: &mut Tables, p: Position) -> Located {

@@ -2,7 +2,7 @@
 
 use crate::calls::{sides_in_range, Mesh, Position, Read, Tables, Written, NODE_LIMIT};
 use crate::check::mesh_refusal;
-use crate::rules::{Document01, Rules};
+use crate::rules::{RightRules, Rules};
 
 pub const TRAILER: usize = 20;
 pub const RECORD: usize = 12;
@@ -13,7 +13,7 @@ fn number(bytes: &[u8], place: usize) -> u32 {
 }
 
 /// The trailer's sides and the file's part from first record to trailer, or nothing where the trailer is wrong.
-fn split(file: &[u8]) -> Option<(Position, &[u8])> {
+pub(crate) fn split(file: &[u8]) -> Option<(Position, &[u8])> {
     let trailer_at = file.len().checked_sub(TRAILER)?;
     let trailer = &file[trailer_at..];
     let count = number(trailer, 3) as usize;
@@ -24,6 +24,12 @@ fn split(file: &[u8]) -> Option<(Position, &[u8])> {
     let first = trailer_at.checked_sub(distance)?;
     let sides = [0, 1, 2].map(|k| number(trailer, k));
     Some((sides, &file[first..trailer_at]))
+}
+
+/// The positions of records.
+pub(crate) fn records(bytes: &[u8]) -> Vec<Position> {
+    let position = |record: &[u8]| [0, 1, 2].map(|axis| number(record, axis));
+    bytes.chunks_exact(RECORD).map(position).collect()
 }
 
 pub fn read_nodes(file: &[u8], nodes: &mut [u32]) -> Read {
@@ -57,9 +63,21 @@ pub fn encode(sides: Position, nodes: &[Position]) -> Vec<u8> {
     numbers.flat_map(|n| n.to_le_bytes()).collect()
 }
 
+/// A file into an output, if there is place for it.
+pub(crate) fn put(file: &[u8], out: &mut [u8]) -> Written {
+    if out.len() < file.len() {
+        return Written::refused(10);
+    }
+    out[..file.len()].copy_from_slice(file);
+    Written {
+        refusal: 0,
+        bytes: file.len() as u32,
+    }
+}
+
 /// "Writes points 8 onward."
 pub fn write_nodes(mesh: Mesh, tables: &mut Tables, out: &mut [u8]) -> Written {
-    write_nodes_with(&Document01, mesh, tables, out)
+    write_nodes_with(&RightRules, mesh, tables, out)
 }
 
 pub fn write_nodes_with(
@@ -74,23 +92,14 @@ pub fn write_nodes_with(
 }
 
 fn written(rules: &dyn Rules, mesh: Mesh, tables: &Tables, out: &mut [u8]) -> Written {
-    let refused = |refusal| Written { refusal, bytes: 0 };
     let refusal = mesh_refusal(rules, mesh, tables, usize::MAX);
     if refusal != 0 {
-        return refused(refusal);
+        return Written::refused(refusal);
     }
     let coordinates = &tables.points[24..3 * mesh.points as usize];
     let nodes: Vec<Position> = coordinates
         .chunks_exact(3)
         .map(|node| [node[0], node[1], node[2]])
         .collect();
-    let file = encode(mesh.sides(), &nodes);
-    if out.len() < file.len() {
-        return refused(10);
-    }
-    out[..file.len()].copy_from_slice(&file);
-    Written {
-        refusal: 0,
-        bytes: file.len() as u32,
-    }
+    put(&encode(mesh.sides(), &nodes), out)
 }

@@ -1,6 +1,7 @@
-//! The rules of document 01 that a build is known to get wrong. They are right as they stand here; a wrong build gives one
-//! of them another body.
+//! The rules of documents 01 and 02 that a build is known, or likely, to get wrong. They are right as they stand here; a
+//! wrong build gives one of them another body.
 
+use crate::calls::Position;
 use crate::cavity::{Candidate, Cavity, Face};
 
 pub trait Rules {
@@ -48,9 +49,20 @@ pub trait Rules {
     fn is_on_far_side(&self, side: i128) -> bool {
         side < 0
     }
+
+    /// Of two files: "the first file's nodes in order, then the second's".
+    fn surveyed(&self, first: &[Position], second: &[Position]) -> Vec<Position> {
+        [first, second].concat()
+    }
+
+    /// "Each position a single time where it first stands": does the node at a place stand earlier too, in either file?
+    /// The first so many are the first file's.
+    fn stands_earlier(&self, surveyed: &[Position], _first: usize, place: usize) -> bool {
+        surveyed[..place].contains(&surveyed[place])
+    }
 }
 
 /// The right rules.
-pub struct Document01;
+pub struct RightRules;
 
-impl Rules for Document01 {}
+impl Rules for RightRules {}

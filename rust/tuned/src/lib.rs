@@ -1,5 +1,6 @@
-//! The calls of document 01, made fast: volumes in i64 that share cross products, lists of cavity cells in the work area,
-//! side codes instead of volumes where they decide, kept cells moved by runs, the far-side test by parity.
+//! The calls of documents 01 and 02, made fast: volumes in i64 that share cross products, lists of cavity cells in the work area,
+//! side codes instead of volumes where they decide, kept cells moved by runs, the far-side test by parity, the nodes of two
+//! files in a hash set.
 //! Every answer and every entry equals that of `plain`. From there come the record and answer types, and what has nothing
 //! to gain: the start, the sphere answer's three cases and the node file's reader.
 
@@ -14,7 +15,7 @@ mod star;
 pub use check::check;
 pub use geometry::{sphere_test, volume6};
 pub use insertion::{insert, insert_answers, insert_list};
-pub use nodefile::write_nodes;
+pub use nodefile::{merge, write_nodes};
 pub use plain::{read_nodes, start};
 pub use plain::{
     Inserted, Listed, Located, Mesh, Owned, Position, Read, Sphere, Started, Tables, Written,

@@ -1,7 +1,8 @@
 //! `tuned` gives the answers and entries of `plain`, T bit for bit.
 
+use plain::nodefile::encode;
 use plain::random::Random;
-use plain::{Inserted, Mesh, Owned, Position};
+use plain::{Inserted, Mesh, Owned, Position, Written};
 
 fn bits(answer: Inserted) -> (Inserted, u64) {
     (answer, answer.least.to_bits())
@@ -146,5 +147,46 @@ fn every_table_entry_changed() {
             );
             assert_eq!(left, right);
         }
+    }
+}
+
+/// What both builds answer, and leave in an output of so many bytes.
+fn merged(first: &[u8], second: &[u8], room: usize) -> Written {
+    let [mut left, mut right] = [vec![7; room], vec![7; room]];
+    let answer = plain::merge(first, second, &mut left);
+    assert_eq!(answer, tuned::merge(first, second, &mut right));
+    assert_eq!(left, right);
+    answer
+}
+
+#[test]
+fn merged_files() {
+    let mut refusals = [0; 20];
+    for seed in 0..400 {
+        let mut random = Random::new(seed);
+        let side = random.pick(&[1, 3, 20, 131_072]);
+        let mut file = || {
+            let count = random.pick(&[0, 1, 5, 40, 700, 1_016, 1_017]);
+            let mut sides = [side; 3];
+            if random.one_in(10) {
+                sides[random.index(3)] = random.pick(&[0, side + 1]);
+            }
+            let far = side + random.one_in(4) as u32;
+            let nodes: Vec<Position> = (0..count).map(|_| position(&mut random, far, 1)).collect();
+            encode(sides, &nodes)
+        };
+        let (first, second) = (file(), file());
+        let answer = merged(&first, &second, 30_000);
+        if answer.refusal == 0 {
+            assert_eq!(merged(&first, &second, answer.bytes as usize), answer);
+            assert_eq!(
+                merged(&first, &second, answer.bytes as usize - 1).refusal,
+                10
+            );
+        }
+        refusals[answer.refusal as usize] += 1;
+    }
+    for refusal in [0, 2, 4, 6, 9, 19] {
+        assert!(refusals[refusal] > 0, "{refusal}: {refusals:?}");
     }
 }

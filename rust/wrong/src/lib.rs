@@ -1,8 +1,8 @@
-//! Wrong builds: the plain build with one rule of document 01 read wrongly, for showing that a comparison finds it. The five
-//! of the document's list "Known wrong builds" come first, under its words.
+//! Wrong builds: the plain build with one rule of document 01 or 02 read wrongly, for showing that a comparison finds it. The
+//! five of document 01's list "Known wrong builds" come first, under its words.
 
 use plain::cavity::{Candidate, Cavity, Face};
-use plain::Rules;
+use plain::{Position, Rules};
 
 #[derive(Clone, Copy)]
 pub struct Build {
@@ -10,7 +10,7 @@ pub struct Build {
     pub rules: &'static dyn Rules,
 }
 
-pub const ALL: [Build; 9] = [
+pub const ALL: [Build; 11] = [
     build("zero-visible", &ZeroVisible),
     build("coplanar-starred", &CoplanarStarred),
     build("base-removed", &BaseRemoved),
@@ -20,6 +20,8 @@ pub const ALL: [Build; 9] = [
     build("coplanar-keeps", &CoplanarKeeps),
     build("one-round", &OneRound),
     build("one-at-a-time", &OneAtATime),
+    build("second-first", &SecondFirst),
+    build("across-files-only", &AcrossFilesOnly),
 ];
 
 const fn build(name: &'static str, rules: &'static dyn Rules) -> Build {
@@ -115,5 +117,23 @@ impl Rules for OneAtATime {
             }
         }
         removed
+    }
+}
+
+/// Of two files, the second's nodes come first.
+pub struct SecondFirst;
+
+impl Rules for SecondFirst {
+    fn surveyed(&self, first: &[Position], second: &[Position]) -> Vec<Position> {
+        [second, first].concat()
+    }
+}
+
+/// Of two files, the second's nodes are looked for in the first, and none in its own file.
+pub struct AcrossFilesOnly;
+
+impl Rules for AcrossFilesOnly {
+    fn stands_earlier(&self, surveyed: &[Position], first: usize, place: usize) -> bool {
+        place >= first && surveyed[..first].contains(&surveyed[place])
     }
 }

@@ -1,11 +1,12 @@
-//! What each wrong build does to a mesh: for the five known ones, the symptom that document 01 names.
+//! What each wrong build does to a mesh, or to a merged file: for the five known ones, the symptom that document 01 names.
 
 use plain::loaded::Loaded;
+use plain::nodefile::encode;
 use plain::random::Random;
-use plain::{Answers, Document01, Mesh, Owned, Position, Rules};
+use plain::{Answers, Mesh, Owned, Position, RightRules, Rules};
 use wrong::{
-    BaseRemoved, CoplanarKeeps, CoplanarStarred, FarSideLeftOut, LostCornersOnly, OneAtATime,
-    OneRound, VisibilityOnly, ZeroVisible,
+    AcrossFilesOnly, BaseRemoved, CoplanarKeeps, CoplanarStarred, FarSideLeftOut, LostCornersOnly,
+    OneAtATime, OneRound, SecondFirst, VisibilityOnly, ZeroVisible,
 };
 
 #[derive(Clone, Debug, PartialEq, Eq)]
@@ -53,7 +54,7 @@ impl Kit {
 
 /// What a wrong build leaves; the right one leaves a mesh.
 fn wrongly(rules: &dyn Rules, nodes: &[Position]) -> Kit {
-    assert!(Kit::with(&Document01, nodes).is_mesh());
+    assert!(Kit::with(&RightRules, nodes).is_mesh());
     Kit::with(rules, nodes)
 }
 
@@ -119,7 +120,7 @@ fn far_side_left_out_passes_folded_pairs() {
     let p = [2, 3, 1];
     let located = |rules| plain::locate_with(rules, kit.mesh, &mut kit.tables.clone().lend(), p);
     assert_eq!(located(&FarSideLeftOut).refusal, 7);
-    assert_eq!(located(&Document01).refusal, 3);
+    assert_eq!(located(&RightRules).refusal, 3);
 }
 
 #[test]
@@ -148,7 +149,39 @@ fn one_at_a_time_makes_another_mesh() {
     let nodes = [[4, 2, 0], [4, 1, 0]];
     let mut kit = wrongly(&OneAtATime, &nodes);
     assert!(kit.is_mesh());
-    assert_ne!(kit, Kit::with(&Document01, &nodes));
+    assert_ne!(kit, Kit::with(&RightRules, &nodes));
+}
+
+/// What a build makes of two files in the box 4, 4, 4.
+fn merged(rules: &dyn Rules, first: &[Position], second: &[Position]) -> Vec<u8> {
+    let [first, second] = [first, second].map(|nodes| encode([4; 3], nodes));
+    let mut out = vec![0; first.len() + second.len()];
+    let answer = plain::merge_with(rules, &first, &second, &mut out);
+    assert_eq!(answer.refusal, 0);
+    out.truncate(answer.bytes as usize);
+    out
+}
+
+#[test]
+fn second_first_numbers_the_nodes_otherwise() {
+    let [p, q, r] = [[1, 2, 3], [2, 2, 2], [3, 1, 1]];
+    let files = |rules: &dyn Rules| merged(rules, &[p, q], &[r, q]);
+    assert_eq!(files(&RightRules), encode([4; 3], &[p, q, r]));
+    assert_eq!(files(&SecondFirst), encode([4; 3], &[r, q, p]));
+}
+
+#[test]
+fn across_files_only_leaves_a_node_that_does_not_go_in() {
+    let [p, q] = [[1, 2, 3], [2, 2, 2]];
+    for (first, second) in [(&[p, p][..], &[q][..]), (&[p], &[q, q])] {
+        let [right, wrong] = [&RightRules as &dyn Rules, &AcrossFilesOnly]
+            .map(|rules| plain::listing(&merged(rules, first, second)));
+        assert!(right.starts_with("box 4 4 4 points 10 ") && !right.contains("stopped"));
+        assert!(wrong
+            .lines()
+            .last()
+            .is_some_and(|line| line.starts_with("stopped ") && line.ends_with(" 5")));
+    }
 }
 
 /// The two nodes lie evenly about the middle of the box, where the rounded sphere test may answer either way
@@ -163,7 +196,7 @@ fn two_even_nodes_are_enough() {
         kit.mesh = listed.mesh;
         kit
     };
-    assert!(after(&Document01).is_mesh());
+    assert!(after(&RightRules).is_mesh());
     assert!(!after(&ZeroVisible).is_mesh());
     assert!(!after(&LostCornersOnly).is_mesh());
     assert!(!after(&OneRound).is_mesh());

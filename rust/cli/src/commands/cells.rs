@@ -4,7 +4,7 @@ use std::fmt::Write;
 
 use gantry::{Refusal, Stopped};
 
-use super::survey;
+use super::{one_standard_input, survey};
 use crate::check::{conditions, is_mesh, says};
 use crate::grid::Grid;
 use crate::input::Source;
@@ -21,7 +21,8 @@ pub fn list(words: &Words) -> Result<Done, Failure> {
         }) => return refused_list(refusal, messages, words),
         survey => survey?,
     };
-    if let Some(length) = survey.length.filter(|&length| length > listing::FILE_LIMIT) {
+    let length = survey.file.as_ref().map(Vec::len);
+    if let Some(length) = length.filter(|&length| length > listing::FILE_LIMIT) {
         let [length, limit] = [length, listing::FILE_LIMIT].map(grouped);
         let why = format!("it has {length} bytes, and a listing takes at most {limit}");
         let message = format!("{}: {}", survey.name, because(Refusal::Trailer, &why));
@@ -68,11 +69,7 @@ struct Shown {
 
 impl Shown {
     fn read(words: &Words) -> Result<Shown, Failure> {
-        let both = [words.listing.as_ref(), words.plain.first()];
-        if both.iter().all(|word| word.is_some_and(|word| word == "-")) {
-            let message = "standard input can be only one of the two";
-            return Err(Failure::Usage(message.to_string()));
-        }
+        one_standard_input([words.listing.as_ref(), words.plain.first()])?;
         let listing = words.listing.as_ref();
         let source = listing.map(|name| Source::read(name)).transpose()?;
         let survey = survey(words)?;

@@ -1,17 +1,13 @@
 //! Node files from text, and back.
 
 use std::fmt::Write;
-use std::io::{self, IsTerminal};
 
-use super::survey;
+use super::{not_for_a_terminal, survey};
 use crate::words::Words;
 use crate::{spaced, Done, Failure};
 
 pub fn nodes(words: &Words) -> Result<Done, Failure> {
-    if words.output.is_none() && io::stdout().is_terminal() {
-        let message = "a node file is not for a terminal: name a file by -o FILE";
-        return Err(Failure::Usage(message.to_string()));
-    }
+    not_for_a_terminal(words)?;
     let survey = survey(words)?;
     let mut built = survey.build()?;
     if let Some(complaint) = survey.complaint(&built) {

@@ -2,10 +2,12 @@
 
 mod cells;
 mod files;
+mod merge;
 mod queries;
 
 use std::ffi::OsString;
 use std::fmt::Write;
+use std::io::{self, IsTerminal};
 
 use crate::survey::Survey;
 use crate::text::Reading;
@@ -29,9 +31,10 @@ const OF_FILE_AND_LISTING: &[Choice] = &[
     Choice::Sides,
     Choice::LeaveOut,
 ];
+const OF_TWO_FILES: &[Choice] = &[Choice::Output, Choice::Sides];
 const OF_NUMBERS: &[Choice] = &[Choice::Output];
 
-const COMMANDS: [Command; 9] = [
+const COMMANDS: [Command; 10] = [
     Command {
         name: "nodes",
         words: "FILE",
@@ -47,6 +50,15 @@ const COMMANDS: [Command; 9] = [
         help: "The nodes are written as they stand, whether or not they would go in.",
         choices: OF_FILE,
         run: files::text,
+    },
+    Command {
+        name: "merge",
+        words: "FILE FILE",
+        summary: "two surveys of one box in one node file",
+        help: "The first file's nodes in order, then the second's, each position a single time where it
+first stands; box corners are left out. Nodes are not tried: 'gantry check' does that.",
+        choices: OF_TWO_FILES,
+        run: merge::merge,
     },
     Command {
         name: "list",
@@ -217,5 +229,28 @@ fn read_survey(file: &OsString, words: &Words) -> Result<Survey, Failure> {
         sides: words.sides,
         leave_out: words.leave_out,
     };
-    Survey::read(file, reading)
+    let survey = Survey::read(file, reading)?;
+    if words.leave_out && survey.file.is_some() {
+        let message = "a node file, and --leave-out is for text; see gantry text";
+        return Err(Failure::input(format!("{}: {message}", survey.name)));
+    }
+    Ok(survey)
+}
+
+fn not_for_a_terminal(words: &Words) -> Result<(), Failure> {
+    if words.output.is_none() && io::stdout().is_terminal() {
+        let message = "a node file is not for a terminal: name a file by -o FILE";
+        return Err(Failure::Usage(message.to_string()));
+    }
+    Ok(())
+}
+
+/// Of two words for input.
+fn one_standard_input(both: [Option<&OsString>; 2]) -> Result<(), Failure> {
+    match both.iter().all(|word| word.is_some_and(|word| word == "-")) {
+        true => Err(Failure::Usage(
+            "standard input can be only one of the two".to_string(),
+        )),
+        false => Ok(()),
+    }
 }

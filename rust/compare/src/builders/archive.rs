@@ -49,6 +49,13 @@ fn inserted(answer: raw::Inserted) -> Inserted {
     }
 }
 
+fn written(answer: raw::Written) -> Written {
+    Written {
+        refusal: answer.refusal,
+        bytes: answer.bytes,
+    }
+}
+
 impl Builder for Archive {
     fn name(&self) -> String {
         "archive".to_string()
@@ -110,8 +117,10 @@ impl Builder for Archive {
     }
 
     fn write_nodes(&self, mesh: Mesh, tables: &mut Tables, out: &mut [u8]) -> Written {
-        let raw::Written { refusal, bytes } =
-            raw::write_nodes(record(mesh), &mut lent(tables), out);
-        Written { refusal, bytes }
+        written(raw::write_nodes(record(mesh), &mut lent(tables), out))
+    }
+
+    fn merge(&self, first: &[u8], second: &[u8], out: &mut [u8]) -> Written {
+        written(raw::merge(first, second, out))
     }
 }

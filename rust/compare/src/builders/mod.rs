@@ -47,4 +47,5 @@ pub trait Builder {
     fn check(&self, mesh: Mesh, tables: &mut Tables) -> bool;
     fn read_nodes(&self, file: &[u8], nodes: &mut [u32]) -> Read;
     fn write_nodes(&self, mesh: Mesh, tables: &mut Tables, out: &mut [u8]) -> Written;
+    fn merge(&self, first: &[u8], second: &[u8], out: &mut [u8]) -> Written;
 }

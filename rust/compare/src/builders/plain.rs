@@ -1,5 +1,5 @@
 use plain::{
-    Answers, Document01, Inserted, Listed, Located, Mesh, Position, Read, Rules, Sphere, Started,
+    Answers, Inserted, Listed, Located, Mesh, Position, Read, RightRules, Rules, Sphere, Started,
     Tables, Written,
 };
 
@@ -14,7 +14,7 @@ pub struct Plain {
 impl Plain {
     pub const RIGHT: Plain = Plain {
         name: "plain",
-        rules: &Document01,
+        rules: &RightRules,
     };
 
     pub fn wrong(build: wrong::Build) -> Plain {
@@ -64,5 +64,8 @@ impl Builder for Plain {
 
     fn write_nodes(&self, mesh: Mesh, tables: &mut Tables, out: &mut [u8]) -> Written {
         plain::write_nodes_with(self.rules, mesh, tables, out)
+    }
+    fn merge(&self, first: &[u8], second: &[u8], out: &mut [u8]) -> Written {
+        plain::merge_with(self.rules, first, second, out)
     }
 }

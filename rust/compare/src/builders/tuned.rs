@@ -49,4 +49,7 @@ impl Builder for Tuned {
     fn write_nodes(&self, mesh: Mesh, tables: &mut Tables, out: &mut [u8]) -> Written {
         tuned::write_nodes(mesh, tables, out)
     }
+    fn merge(&self, first: &[u8], second: &[u8], out: &mut [u8]) -> Written {
+        tuned::merge(first, second, out)
+    }
 }
