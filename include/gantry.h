@@ -22,8 +22,8 @@ extern "C" {
 
 /*
  * Refusals; docs/MANUAL.md says what to do about each. A refusal changes nothing but the work area; a list that stops at a refused
- * node keeps the nodes before it. Tests are made in number order, but a file's 9 before its 2, and 19 as gantry_merge says. 7 is never
- * answered: that is proved, as never-seven in crates/covering.
+ * node keeps the nodes before it. Tests are made in number order, but a file's 9 before its 2, and gantry_merge's in the order given there.
+ * 7 is never answered: that is proved, as never-seven in crates/covering.
  */
 #define GANTRY_ACCEPTED 0
 #define GANTRY_SHORT 1          /* room for fewer than 8 points or 6 cells, or fewer answer bytes than cells */

@@ -8,17 +8,20 @@
 
 enum { NODES = 1016, LONGEST = 12 * NODES + 20, INPUT = 65536 };
 
-static uint8_t first[INPUT], second[INPUT], merged[LONGEST];
+static uint8_t first[INPUT + 1], second[INPUT + 1], merged[LONGEST];
 static uint32_t nodes[3 * NODES];
 
-/* How many bytes were read: none where there is no such file, and then it is refused for its trailer. */
-static size_t read_file(const char *name, uint8_t *bytes)
+/* A file that is cut may be a node file too, of other nodes: so it is read whole, with its note, or not at all. */
+static int read_file(const char *name, uint8_t *bytes, size_t *length)
 {
     FILE *file = fopen(name, "rb");
-    size_t length = file == NULL ? 0 : fread(bytes, 1, INPUT, file);
-    if (file != NULL)
-        fclose(file);
-    return length;
+    int is_read;
+
+    if (file == NULL)
+        return 0;
+    *length = fread(bytes, 1, INPUT + 1, file);
+    is_read = !ferror(file) && *length <= INPUT;
+    return fclose(file) == 0 && is_read;
 }
 
 static int write_file(const char *name, const uint8_t *bytes, size_t length)
@@ -32,14 +35,17 @@ static int write_file(const char *name, const uint8_t *bytes, size_t length)
 
 int main(int argc, char **argv)
 {
+    size_t first_length, second_length;
     uint32_t i;
 
     if (argc != 4) {
         printf("usage: merge FIRST SECOND MERGED\n");
         return 2;
     }
-    size_t first_length = read_file(argv[1], first);
-    size_t second_length = read_file(argv[2], second);
+    if (!read_file(argv[1], first, &first_length) || !read_file(argv[2], second, &second_length)) {
+        printf("a file could not be read, or has more than %d bytes\n", INPUT);
+        return 1;
+    }
     gantry_written written = gantry_merge(first, first_length, second, second_length, merged, LONGEST);
     if (written.refusal != GANTRY_ACCEPTED) {
         printf("refused %u\n", (unsigned)written.refusal);

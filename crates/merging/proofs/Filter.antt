@@ -21,7 +21,7 @@ use Rattle.mesh.specs.Inner.{withPoint}
 use Rattle.mesh.proofs.Points.{put-length, put-same, put-other}
 use Rattle.nodefile.specs.declared.Header.{Header}
 use Rattle.merging.specs.Merge.{among, firsts, boxCorners, kept, coordinates}
-use Rattle.merging.specs.Inner.{positionsIn, atEnd, isCorner, Ends, Filtered, Left}
+use Rattle.merging.specs.Inner.{positionsIn, atEnd, isCorner, ProbeEnds, Filtered, FilteredAll}
 use Rattle.merging.proofs.Firsts.{among-at, among-stands, firsts-snoc}
 use Rattle.merging.proofs.Table.{none-indexed, ends-empty, ends-found, ends≤, one-indexed}
 
@@ -164,7 +164,7 @@ none-filtered h ns =
       fewer = omega arith;
       same-length = refl;
       table-length = length-replicate {A = ℕ} 4096 0;
-      left = refl;
+      front = refl;
       rest = λ j l. refl;
       indexed = none-indexed ns 4096;
     }
@@ -177,7 +177,7 @@ module _ {h : Header} {ns₀ ns table : List ℕ} {i k : ℕ} (S : Filtered h ns
       ap (λ n. kept h (positionsIn n ns₀)) (add-one i) ∙
       (ap (kept h) (tabulate-suc i (pointIn ns₀) ∙ ap (λ q. positionsIn i ns₀ ++ (q ∷ [])) (sym (at ∙ S .rest i (omega arith)))) ∙
       (firsts-snoc (boxCorners h) (positionsIn i ns₀) p ∙
-      ap (λ l. cond (among (boxCorners h) p || among l p) l (l ++ (p ∷ []))) (sym (S .left))))
+      ap (λ l. cond (among (boxCorners h) p || among l p) l (l ++ (p ∷ []))) (sym (S .front))))
 
   stays : (among (boxCorners h) p || among (positionsIn k ns) p) ≡ true → Filtered h ns₀ ns table (i + 1) k
   stays e =
@@ -185,7 +185,7 @@ module _ {h : Header} {ns₀ ns table : List ℕ} {i k : ℕ} (S : Filtered h ns
         fewer = omega (arith, S .fewer);
         same-length = S .same-length;
         table-length = S .table-length;
-        left = sym (one-more ∙ rw e);
+        front = sym (one-more ∙ rw e);
         rest = λ j l. S .rest j (omega arith);
         indexed = S .indexed;
       }
@@ -193,7 +193,7 @@ module _ {h : Header} {ns₀ ns table : List ℕ} {i k : ℕ} (S : Filtered h ns
   pub corner-stays : isCorner h p ≡ true → Filtered h ns₀ ns table (i + 1) k
   corner-stays e = stays (or-left (among (boxCorners h) p) (among (positionsIn k ns) p) (sym (corner-test h p) ∙ e))
 
-  module _ {r : ℕ} (E : Ends ns table p r) where
+  module _ {r : ℕ} (E : ProbeEnds ns table p r) where
     pub found-stays : getD table r 0 ≢ 0 → Filtered h ns₀ ns table (i + 1) k
     found-stays d =
         let f = ends-found (S .indexed) E d in
@@ -214,7 +214,7 @@ module _ {h : Header} {ns₀ ns table : List ℕ} {i k : ℕ} (S : Filtered h ns
           fewer = omega (arith, S .fewer);
           same-length = put-length ns k p ∙ S .same-length;
           table-length = length-set table r (k + 1) ∙ S .table-length;
-          left = now ∙ sym after;
+          front = now ∙ sym after;
           rest = λ j l. put-other ns k p j (omega (arith, S .fewer)) ∙ S .rest j (omega arith);
           indexed = one-indexed (S .indexed) E e (omega (arith, ends≤ (S .indexed) E, S .table-length, S .fewer)) more;
         }
@@ -225,9 +225,9 @@ module _ {h : Header} {ns₀ ns table : List ℕ} {i k : ℕ} (S : Filtered h ns
         subst (λ l. Filtered h ns₀ l (set table r (k + 1)) (i + 1) (k + 1)) (sym put)
         (joined c e room few)
 
-pub all-filtered : {h : Header} {ns₀ ns table : List ℕ} {i k : ℕ} → Filtered h ns₀ ns table i k → i ≡ h .count → 3 * h .count ≤ length ns₀ → Left h ns₀ k ns
+pub all-filtered : {h : Header} {ns₀ ns table : List ℕ} {i k : ℕ} → Filtered h ns₀ ns table i k → i ≡ h .count → 3 * h .count ≤ length ns₀ → FilteredAll h ns₀ k ns
 all-filtered {h} {ns₀} {ns} {table} {i} {k} S e room =
-    let l = S .left ∙ ap (λ n. kept h (positionsIn n ns₀)) e in
+    let l = S .front ∙ ap (λ n. kept h (positionsIn n ns₀)) e in
     record {
       count = sym (tabulate-length k (pointIn ns)) ∙ ap length l;
       fits = omega (arith, S .fewer, S .same-length);

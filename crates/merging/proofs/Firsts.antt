@@ -1,5 +1,5 @@
 -- Positions a single time: what is left of a list, one position more, and what every position of it tells.
-use Prim.Native.Nat.{ℕ, zero, suc, _+_, _<_}
+use Prim.Native.Nat.{ℕ, zero, suc, _≤_, _<_}
 use mathlib.Core.Bool.{Bool, true, false, not, cond, _||_, or-assoc, true≢false}
 use mathlib.Core.List.{List, [], _∷_, _++_, append-nil}
 use mathlib.Core.Logic.{_⊎_, inl, inr, ⊎-elim}
@@ -13,7 +13,7 @@ use Rattle.geometry.specs.declared.Position.{Position}
 use Rattle.geometry.specs.Volume.{samePosition}
 use Rattle.mesh.proofs.Checked.{same-position-of, same-position-yes}
 use Rattle.merging.specs.Merge.{among, firsts}
-use Rattle.merging.specs.Laws.{single}
+use Rattle.merging.specs.Laws.{distinct}
 
 -- ---- among
 
@@ -144,11 +144,21 @@ firsts-new seen (q ∷ ps) p e = go (firsts-new seen ps p) (firsts-new (q ∷ se
     go h k (inl a) = let r = h (rw a at e) in (or-right (samePosition q p) (among ps p) (r .0), r .1)
     go h k (inr a) = here k a (or-cases (samePosition q p) (among (firsts (q ∷ seen) ps) p) (rw a at e))
 
+pub firsts-fewer : (seen ps : List Position) → length (firsts seen ps) ≤ length ps
+unfolding firsts
+firsts-fewer seen [] = omega arith
+firsts-fewer seen (q ∷ ps) = go (firsts-fewer seen ps) (firsts-fewer (q ∷ seen) ps) (among seen q)
+  where
+    go : length (firsts seen ps) ≤ length ps → length (firsts (q ∷ seen) ps) ≤ length ps → (b : Bool) →
+        length (cond b (firsts seen ps) (q ∷ firsts (q ∷ seen) ps)) ≤ length (q ∷ ps)
+    go h k true = omega arith
+    go h k false = omega arith
+
 -- no position is left twice
-pub firsts-single : (seen ps : List Position) → single (firsts seen ps) ≡ true
-unfolding firsts among single
-firsts-single seen [] = refl
-firsts-single seen (q ∷ ps) = go (firsts-single seen ps) (firsts-single (q ∷ seen) ps) (split (among seen q))
+pub firsts-distinct : (seen ps : List Position) → distinct (firsts seen ps) ≡ true
+unfolding firsts among distinct
+firsts-distinct seen [] = refl
+firsts-distinct seen (q ∷ ps) = go (firsts-distinct seen ps) (firsts-distinct (q ∷ seen) ps) (split (among seen q))
   where
     F : List Position
     F = firsts (q ∷ seen) ps
@@ -158,19 +168,19 @@ firsts-single seen (q ∷ ps) = go (firsts-single seen ps) (firsts-single (q ∷
         fails (among F q)
         (λ e. clash (or-left (samePosition q q) (among seen q) (same-position-yes q q refl)) (firsts-new (q ∷ seen) ps q e .1))
 
-    go : single (firsts seen ps) ≡ true → single F ≡ true → (among seen q ≡ true) ⊎ (among seen q ≡ false) → single (firsts seen (q ∷ ps)) ≡ true
+    go : distinct (firsts seen ps) ≡ true → distinct F ≡ true → (among seen q ≡ true) ⊎ (among seen q ≡ false) → distinct (firsts seen (q ∷ ps)) ≡ true
     go h k (inl a) = rw a h
     go h k (inr a) = rw (a, absent) k
 
 -- a list without repetition, of which nothing was seen, is left as it is
-pub firsts-same : (seen ps : List Position) → single ps ≡ true → ((p : Position) → among ps p ≡ true → among seen p ≡ false) → firsts seen ps ≡ ps
-unfolding firsts among single
+pub firsts-same : (seen ps : List Position) → distinct ps ≡ true → ((p : Position) → among ps p ≡ true → among seen p ≡ false) → firsts seen ps ≡ ps
+unfolding firsts among distinct
 firsts-same seen [] s h = refl
 firsts-same seen (q ∷ ps) s h =
-    rw (h q (or-left (samePosition q q) (among ps q) (same-position-yes q q refl))) (ap (λ l. q ∷ l) (firsts-same (q ∷ seen) ps (and-right (not (among ps q)) (single ps) s) unseen))
+    rw (h q (or-left (samePosition q q) (among ps q) (same-position-yes q q refl))) (ap (λ l. q ∷ l) (firsts-same (q ∷ seen) ps (and-right (not (among ps q)) (distinct ps) s) unseen))
   where
     absent : among ps q ≡ false
-    absent = not-true (among ps q) (and-left (not (among ps q)) (single ps) s)
+    absent = not-true (among ps q) (and-left (not (among ps q)) (distinct ps) s)
 
     unseen : (p : Position) → among ps p ≡ true → (samePosition q p || among seen p) ≡ false
     unseen p e =

@@ -5,6 +5,7 @@ use mathlib.Core.List.{List, [], _∷_, _++_, append-nil}
 use mathlib.Core.Logic.{_⊎_, inl, inr, ⊎-elim}
 use mathlib.Core.Path.{_≡_, refl, sym, ap, _∙_, subst}
 use native.Mathlib.Omega.{arith}
+use borrow.Author.Tests.{eqb-true}
 use lib.Dec.{eqb}
 use lib.ListN.{length}
 use Rattle.arith.specs.Table.{tabulate, fill}
@@ -13,6 +14,7 @@ use Rattle.arith.proofs.Tables.{tabulate-length, tabulate-at}
 use Rattle.geometry.specs.declared.Position.{Position}
 use Rattle.geometry.specs.Volume.{InBox, inBox, samePosition}
 use Rattle.geometry.proofs.Ranges.{box-in, in-box}
+use Rattle.mesh.specs.Tables.{pointIn}
 use Rattle.mesh.specs.Mesh.{bit, boxCorner}
 use Rattle.mesh.specs.Check.{legalSide}
 use Rattle.mesh.specs.Start.{over}
@@ -21,10 +23,11 @@ use Rattle.nodefile.specs.declared.Header.{Header}
 use Rattle.nodefile.specs.declared.Read.the-variants.{Nodes}
 use Rattle.nodefile.specs.Read.{header, nodes, readAnswer, readOutput, ReadLeaves}
 use Rattle.nodefile.proofs.Digits.{Words}
+use Rattle.nodefile.proofs.Answers.{accepted}
 use Rattle.nodefile.proofs.RoundTrips.{Legal, header-is, nodes-are, file-read}
-use Rattle.merging.specs.Merge.{positions, surveyed, among, firsts, boxCorners, kept, left, coordinates, withCount, fileOfPositions, mergedFile, allInside}
+use Rattle.merging.specs.Merge.{positions, surveyed, among, firsts, boxCorners, kept, left, coordinates, withCount, fileOfPositions, mergedFile, fileRefusal, sameSides, allInside}
 use Rattle.merging.specs.Laws.{mergedHeader, ReadsBack, Complete, FourAlike, Alone}
-use Rattle.merging.proofs.Firsts.{among-stands, firsts-known, firsts-all, firsts-new, firsts-single, firsts-same}
+use Rattle.merging.proofs.Firsts.{among-stands, firsts-known, firsts-all, firsts-fewer, firsts-new, firsts-distinct, firsts-same}
 use Rattle.merging.proofs.Answers.{coordinates-length, Merged, merged}
 
 -- ---- nothing is lost
@@ -37,22 +40,33 @@ complete first second =
     record {
       all = λ p e. or-cases (among corners p) (among (firsts corners ps) p) (firsts-all corners ps p e);
       only = λ p e. firsts-new corners ps p e;
-      once = firsts-single corners ps;
+      once = firsts-distinct corners ps;
     }
 
 none-there : (file : List ℕ) → header file .count ≡ 0 → positions file ≡ []
 unfolding positions tabulate fill
 none-there file e = rw e
 
+same-corners : (h k : Header) → sameSides h k ≡ true → boxCorners h ≡ boxCorners k
+unfolding sameSides boxCorners
+same-corners h k e =
+    let yz = and-right (eqb (h .x) (k .x)) _ e in
+    let x = eqb-true (h .x) (k .x) (and-left (eqb (h .x) (k .x)) _ e) in
+    let y = eqb-true (h .y) (k .y) (and-left (eqb (h .y) (k .y)) (eqb (h .z) (k .z)) yz) in
+    let z = eqb-true (h .z) (k .z) (and-right (eqb (h .y) (k .y)) (eqb (h .z) (k .z)) yz) in
+    λ i. tabulate 8 (boxCorner (x i) (y i) (z i))
+
 pub alone : (file : List ℕ) → Alone file
-unfolding kept surveyed
+unfolding kept surveyed positions fileRefusal
 alone file =
     let corners = boxCorners (header file) in
     let ps = positions file in
+    let itself = firsts-known corners ps ps (firsts-all corners ps) in
     record {
-      itself = firsts-known corners ps ps (firsts-all corners ps);
+      itself = itself;
       then-none = λ empty e. ap (λ qs. firsts corners (ps ++ qs)) (none-there empty e) ∙ ap (firsts corners) (append-nil ps);
-      none-then = λ empty e c. λ i. firsts (c i) (none-there empty e i ++ ps);
+      none-then = λ empty e s. λ i. firsts (same-corners (header empty) (header file) s i) (none-there empty e i ++ ps);
+      few = λ z. omega (arith, ap length itself, firsts-fewer corners ps, tabulate-length (header file .count) (pointIn (nodes file)), accepted file 3048 z .few);
       whole = firsts-same corners ps;
     }
 

@@ -16,25 +16,25 @@ use Rattle.mesh.specs.Tables.{pointIn}
 use Rattle.mesh.specs.Inner.{withPoint}
 use Rattle.mesh.proofs.Checked.{same-position-yes}
 use Rattle.mesh.proofs.Points.{put-same, put-other}
-use Rattle.merging.specs.Inner.{startOf, Filed, Indexed, Names, Passed, Ends}
+use Rattle.merging.specs.Inner.{hashOf, Stored, Indexed, Names, Probed, ProbeEnds}
 
-pub start< : (p : Position) → startOf p < 2048
-unfolding startOf
-start< p = omega arith
+pub hash< : (p : Position) → hashOf p < 2048
+unfolding hashOf
+hash< p = omega arith
 
 -- ---- a search
 
 module _ {ns table : List ℕ} {p : Position} where
-  pub none-passed : {r : ℕ} → r ≡ startOf p → Passed ns table p r
-  none-passed e = record { after = omega arith; run = λ j a b. absurd (omega arith) }
+  pub none-probed : {r : ℕ} → r ≡ hashOf p → Probed ns table p r
+  none-probed e = record { after = omega arith; run = λ j a b. absurd (omega arith) }
 
-  pub one-passed : {r : ℕ} → Passed ns table p r → getD table r 0 ≢ 0 → samePosition (pointIn ns (getD table r 0 - 1)) p ≡ false → Passed ns table p (r + 1)
-  one-passed {r} P d f = record { after = omega (arith, P .after); run = λ j a b. go j a (decLt j r) b }
+  pub one-probed : {r : ℕ} → Probed ns table p r → getD table r 0 ≢ 0 → samePosition (pointIn ns (getD table r 0 - 1)) p ≡ false → Probed ns table p (r + 1)
+  one-probed {r} P d f = record { after = omega (arith, P .after); run = λ j a b. go j a (decLt j r) b }
     where
       at : (getD table r 0 ≢ 0) × (pointIn ns (getD table r 0 - 1) ≢ p)
       at = (d, λ q. clash (same-position-yes (pointIn ns (getD table r 0 - 1)) p q) f)
 
-      go : (j : ℕ) → startOf p ≤ j → Dec (j < r) → j < r + 1 → (getD table j 0 ≢ 0) × (pointIn ns (getD table j 0 - 1) ≢ p)
+      go : (j : ℕ) → hashOf p ≤ j → Dec (j < r) → j < r + 1 → (getD table j 0 ≢ 0) × (pointIn ns (getD table j 0 - 1) ≢ p)
       go j a (yes l) b = P .run j a l
       go j a (no g) b = let q : r ≡ j = omega arith in subst (λ i. (getD table i 0 ≢ 0) × (pointIn ns (getD table i 0 - 1) ≢ p)) q at
 
@@ -43,7 +43,7 @@ module _ {ns table : List ℕ} {p : Position} where
 -- the empty table
 pub none-indexed : (ns : List ℕ) (n : ℕ) → Indexed ns (replicate n 0) 0
 none-indexed ns n =
-    record { named = λ j. omega (arith, zeros-at n j); empty = λ j h. zeros-at n j; filed = λ m h. absurd (omega arith) }
+    record { named = λ j. omega (arith, zeros-at n j); empty = λ j h. zeros-at n j; stored = λ m h. absurd (omega arith) }
 
 module _ {ns table : List ℕ} {k : ℕ} (I : Indexed ns table k) where
   -- an occupied place has empty ones after it
@@ -54,26 +54,26 @@ module _ {ns table : List ℕ} {k : ℕ} (I : Indexed ns table k) where
       go (yes l) = l
       go (no g) = absurd (d (I .empty j (omega arith)))
 
-  module _ {p : Position} {r : ℕ} (E : Ends ns table p r) where
+  module _ {p : Position} {r : ℕ} (E : ProbeEnds ns table p r) where
     -- at an empty place: p is none of the nodes
     pub ends-empty : getD table r 0 ≡ 0 → (m : ℕ) → m < k → pointIn ns m ≢ p
     ends-empty e m h q = go (decLt (F .place) r) (decLt r (F .place))
       where
-        F : Filed ns table m
-        F = I .filed m h
+        F : Stored ns table m
+        F = I .stored m h
 
-        s : startOf (pointIn ns m) ≡ startOf p
-        s = ap startOf q
+        s : hashOf (pointIn ns m) ≡ hashOf p
+        s = ap hashOf q
 
         found : F .place < r → ⊥
         found l =
-            let t = E .passed .run (F .place) (omega (arith, s, F .after)) l in
+            let t = E .probed .run (F .place) (omega (arith, s, F .after)) l in
             let n : getD table (F .place) 0 - 1 ≡ m = omega (arith, F .entry) in
             t .1 (ap (pointIn ns) n ∙ q)
 
         go : Dec (F .place < r) → Dec (r < F .place) → ⊥
         go (yes l) b = found l
-        go (no a) (yes l) = F .run r (omega (arith, s, E .passed .after)) l e
+        go (no a) (yes l) = F .run r (omega (arith, s, E .probed .after)) l e
         go (no a) (no b) =
             let at : F .place ≡ r = omega arith in
             absurd (omega (arith, F .entry, ap (λ j. getD table j 0) at))
@@ -90,7 +90,7 @@ module _ {ns table : List ℕ} {k : ℕ} (I : Indexed ns table k) where
     ends≤ = go (decLt (2048 + k) r)
       where
         go : Dec (2048 + k < r) → r ≤ 2048 + k
-        go (yes l) = absurd (E .passed .run (2048 + k) (omega (arith, start< p)) l .0 (I .empty (2048 + k) (omega arith)))
+        go (yes l) = absurd (E .probed .run (2048 + k) (omega (arith, hash< p)) l .0 (I .empty (2048 + k) (omega arith)))
         go (no g) = omega arith
 
     -- p as node k, named where the search ended
@@ -110,11 +110,11 @@ module _ {ns table : List ℕ} {k : ℕ} (I : Indexed ns table k) where
       taken : (j : ℕ) → getD table j 0 ≢ 0 → getD table′ j 0 ≢ 0
       taken j d z = d (sym (other j d) ∙ z)
 
-      kept-filed : (m : ℕ) → m < k → Filed ns′ table′ m
-      kept-filed m h =
-          let F = I .filed m h in
+      kept-stored : (m : ℕ) → m < k → Stored ns′ table′ m
+      kept-stored m h =
+          let F = I .stored m h in
           let q : pointIn ns′ m ≡ pointIn ns m = put-other ns k p m (omega arith) in
-          let s : startOf (pointIn ns′ m) ≡ startOf (pointIn ns m) = ap startOf q in
+          let s : hashOf (pointIn ns′ m) ≡ hashOf (pointIn ns m) = ap hashOf q in
           record {
             place = F .place;
             entry = other (F .place) (λ z. absurd (omega (arith, F .entry))) ∙ F .entry;
@@ -122,10 +122,10 @@ module _ {ns table : List ℕ} {k : ℕ} (I : Indexed ns table k) where
             run = λ j a b. taken j (F .run j (omega arith) b);
           }
 
-      new-filed : Filed ns′ table′ k
-      new-filed =
-          let s : startOf (pointIn ns′ k) ≡ startOf p = ap startOf (put-same ns k p room) in
-          record { place = r; entry = same; after = omega (arith, E .passed .after); run = λ j a b. taken j (E .passed .run j (omega arith) b .0) }
+      new-stored : Stored ns′ table′ k
+      new-stored =
+          let s : hashOf (pointIn ns′ k) ≡ hashOf p = ap hashOf (put-same ns k p room) in
+          record { place = r; entry = same; after = omega (arith, E .probed .after); run = λ j a b. taken j (E .probed .run j (omega arith) b .0) }
 
       pub one-indexed : Indexed (withPoint ns k p) (set table r (k + 1)) (k + 1)
       one-indexed =
@@ -133,13 +133,13 @@ module _ {ns table : List ℕ} {k : ℕ} (I : Indexed ns table k) where
             named = λ j. named j (ℕ-discrete j r);
             empty = λ j h.
                 getD-set-other table r j (k + 1) 0 (λ q. absurd (omega (arith, ends≤))) ∙ I .empty j (omega arith);
-            filed = λ m h. filed m (decLt m k) h;
+            stored = λ m h. stored m (decLt m k) h;
           }
         where
           named : (j : ℕ) → Dec (j ≡ r) → getD table′ j 0 ≤ k + 1
           named j (yes q) = omega (arith, ap (λ i. getD table′ i 0) q, same)
           named j (no d) = omega (arith, getD-set-other table r j (k + 1) 0 d, I .named j)
 
-          filed : (m : ℕ) → Dec (m < k) → m < k + 1 → Filed ns′ table′ m
-          filed m (yes l) h = kept-filed m l
-          filed m (no g) h = let q : k ≡ m = omega arith in subst (Filed ns′ table′) q new-filed
+          stored : (m : ℕ) → Dec (m < k) → m < k + 1 → Stored ns′ table′ m
+          stored m (yes l) h = kept-stored m l
+          stored m (no g) h = let q : k ≡ m = omega arith in subst (Stored ns′ table′) q new-stored

@@ -29,38 +29,38 @@ atEnd side v = eqb v 0 || eqb v side
 unfoldable pub isCorner : Header → Position → Bool
 isCorner h p = atEnd (h .x) (p .x) && (atEnd (h .y) (p .y) && atEnd (h .z) (p .z))
 
--- ---- the table of positions: open addressing. An entry is 0 where the place is empty, else 1 more than the number of a kept node.
+-- ---- a hash table of positions, by linear probing. An entry is 0 where the place is empty, else 1 more than the number of a kept node.
 
--- where the search for a position begins. The factors are 2^30 over the powers of 1.2207.., the root of r^4 = r + 1, so that
--- neighbours on a lattice begin far apart.
-unfoldable pub startOf : Position → ℕ
-startOf p = (879579789 * p .x + 720527587 * p .y + 590236393 * p .z) / 524288 % 2048
+-- Where the search for a position begins: a multiplicative hash. The factors are 2^30 over the powers of 1.2207.., the root of
+-- r^4 = r + 1, so that neighbours on a lattice begin far apart.
+unfoldable pub hashOf : Position → ℕ
+hashOf p = (879579789 * p .x + 720527587 * p .y + 590236393 * p .z) / 524288 % 2048
 
 -- node m is at a place that the search for it comes to
-pub record Filed (ns table : List ℕ) (m : ℕ) : Type 0 where
+pub record Stored (ns table : List ℕ) (m : ℕ) : Type 0 where
   pub place : ℕ
   pub entry : getD table place 0 ≡ m + 1
-  pub after : startOf (pointIn ns m) ≤ place
-  pub run : (j : ℕ) → startOf (pointIn ns m) ≤ j → j < place → getD table j 0 ≢ 0
+  pub after : hashOf (pointIn ns m) ≤ place
+  pub run : (j : ℕ) → hashOf (pointIn ns m) ≤ j → j < place → getD table j 0 ≢ 0
 
 -- the table names the first k nodes and no others. Its last places are still empty, so that every search ends
 pub record Indexed (ns table : List ℕ) (k : ℕ) : Type 0 where
   pub named : (j : ℕ) → getD table j 0 ≤ k
   pub empty : (j : ℕ) → 2048 + k ≤ j → getD table j 0 ≡ 0
-  pub filed : (m : ℕ) → m < k → Filed ns table m
+  pub stored : (m : ℕ) → m < k → Stored ns table m
 
 -- the table's entry at place j is the number of a node at p
 abbrev pub Names : List ℕ → List ℕ → Position → ℕ → Type 0
 Names ns table p j = (getD table j 0 ≢ 0) × (pointIn ns (getD table j 0 - 1) ≡ p)
 
 -- the search for p has come to place r
-pub record Passed (ns table : List ℕ) (p : Position) (r : ℕ) : Type 0 where
-  pub after : startOf p ≤ r
-  pub run : (j : ℕ) → startOf p ≤ j → j < r → (getD table j 0 ≢ 0) × (pointIn ns (getD table j 0 - 1) ≢ p)
+pub record Probed (ns table : List ℕ) (p : Position) (r : ℕ) : Type 0 where
+  pub after : hashOf p ≤ r
+  pub run : (j : ℕ) → hashOf p ≤ j → j < r → (getD table j 0 ≢ 0) × (pointIn ns (getD table j 0 - 1) ≢ p)
 
 -- and ends there: at p, or at an empty place
-pub record Ends (ns table : List ℕ) (p : Position) (r : ℕ) : Type 0 where
-  pub passed : Passed ns table p r
+pub record ProbeEnds (ns table : List ℕ) (p : Position) (r : ℕ) : Type 0 where
+  pub probed : Probed ns table p r
   pub here : (getD table r 0 ≡ 0) ⊎ Names ns table p r
 
 -- room for k nodes and for one entry more
@@ -76,7 +76,7 @@ pub record Filtered (h : Header) (ns₀ ns table : List ℕ) (i k : ℕ) : Type 
   pub fewer : k ≤ i
   pub same-length : length ns ≡ length ns₀
   pub table-length : length table ≡ 4096
-  pub left : positionsIn k ns ≡ kept h (positionsIn i ns₀)
+  pub front : positionsIn k ns ≡ kept h (positionsIn i ns₀)
   pub rest : (j : ℕ) → i ≤ j → pointIn ns j ≡ pointIn ns₀ j
   pub indexed : Indexed ns table k
 
@@ -84,8 +84,8 @@ pub record Filtered (h : Header) (ns₀ ns table : List ℕ) (i k : ℕ) : Type 
 abbrev pub Filters : Header → List ℕ → List ℕ → ℕ → ℕ → List ℕ → List ℕ → ℕ → Type 0
 Filters h ns table i k ns′ table′ k′ = (ns₀ : List ℕ) → Filtered h ns₀ ns table i k → Filtered h ns₀ ns′ table′ (i + 1) k′
 
--- the nodes that are left of all, at the front
-pub record Left (h : Header) (ns : List ℕ) (k : ℕ) (ns′ : List ℕ) : Type 0 where
+-- all of them have been looked at
+pub record FilteredAll (h : Header) (ns : List ℕ) (k : ℕ) (ns′ : List ℕ) : Type 0 where
   pub count : k ≡ length (kept h (positionsIn (h .count) ns))
   pub fits : 3 * k ≤ length ns′
   pub front : take (3 * k) ns′ ≡ coordinates (kept h (positionsIn (h .count) ns))

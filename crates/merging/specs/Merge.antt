@@ -65,7 +65,7 @@ mergedFile first second = fileOfPositions (header first) (left first second)
 
 -- ---- refusals
 
--- '9 and 2' of a file: with room for 1,016 nodes the reader never answers 10
+-- '9 and 2' of a file: with room for 1,016 nodes the reader never answers 10 (`never-ten`)
 unfoldable pub fileRefusal : List ℕ → ℕ
 fileRefusal file = readRefusal file 3048
 

@@ -1,10 +1,10 @@
-// Each position a single time, box corners left out: the nodes that are left move to the front, in their order. A table finds a position in
-// a few steps.
+// Each position a single time, box corners left out: the nodes that are left move to the front, in their order. A hash table finds a position
+// in a few steps.
 
 ghost use mathlib.Core.Path.{_≡_};
 ghost use Prim.Native.Nat.{_+_, _*_, _≤_, _<_};
 ghost use lib.ListN.{length};
-ghost use Rattle.merging.specs.Inner.{atEnd, isCorner, startOf, Indexed, Ends, Roomy, Filters, Left};
+ghost use Rattle.merging.specs.Inner.{atEnd, isCorner, hashOf, Indexed, ProbeEnds, Roomy, Filters, FilteredAll};
 use geometry::Position;
 use geometry::volume::same_position;
 use mesh_tables::point_at;
@@ -32,8 +32,9 @@ fn is_corner(head: Header, p: Position) -> bool
     at_end(head.z, p.z)
 }
 
-fn start_of(p: Position) -> usize
-    ensures { λ r. ⌜ r ≡ startOf p ⌝ }
+// merging/specs/Inner says why these factors.
+fn hash(p: Position) -> usize
+    ensures { λ r. ⌜ r ≡ hashOf p ⌝ }
 {
     let x = p.x as u64;
     let y = p.y as u64;
@@ -42,11 +43,11 @@ fn start_of(p: Position) -> usize
 }
 
 // The place at which the search for p ends. The table names the first count nodes.
-fn place_of(table: &[u16], nodes: &[u32], count: usize, p: Position) -> usize
+fn probe(table: &[u16], nodes: &[u32], count: usize, p: Position) -> usize
     requires { ⌜ Indexed (now nodes) (now table) count × Roomy (now nodes) (now table) count ⌝ }
-    ensures { λ r. ⌜ Ends (now (nodes .entry)) (now (table .entry)) p r ⌝ }
+    ensures { λ r. ⌜ ProbeEnds (now (nodes .entry)) (now (table .entry)) p r ⌝ }
 {
-    let mut at = start_of(p);
+    let mut at = hash(p);
     while table[at] != 0 {
         let node = table[at] as usize - 1;
         if same_position(point_at(nodes, node), p) {
@@ -66,7 +67,7 @@ fn keep(head: Header, nodes: &mut [u32], table: &mut [u16], count: usize, i: usi
     if is_corner(head, p) {
         return count;
     }
-    let at = place_of(table, nodes, count, p);
+    let at = probe(table, nodes, count, p);
     if table[at] != 0 {
         return count;
     }
@@ -78,7 +79,7 @@ fn keep(head: Header, nodes: &mut [u32], table: &mut [u16], count: usize, i: usi
 // Answers how many nodes are left.
 pub fn keep_firsts(head: Header, nodes: &mut [u32]) -> u32
     requires { ⌜ (head .count ≤ 2032) × (3 * head .count ≤ length (now nodes)) ⌝ }
-    ensures { λ r. ⌜ Left head (now (nodes .entry)) r (now (nodes .exit)) ⌝ }
+    ensures { λ r. ⌜ FilteredAll head (now (nodes .entry)) r (now (nodes .exit)) ⌝ }
 {
     let mut table = [0u16; 4096];
     let n = head.count as usize;

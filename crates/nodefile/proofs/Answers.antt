@@ -90,23 +90,39 @@ accept file room a =
       le-ltb room (3 * header file .count) (a .room≥),
     )
 
--- with room for 1,016 nodes a file is refused or not whatever the room
+-- with room for 1,016 nodes, 9 and 2 alone
+module _ (file : List ℕ) (room : ℕ) (h : 3048 ≤ room) where
+  wrong : Bool
+  wrong = ltb (length file) 20 || wrongTrailer (header file .count) (distance file) (length file - 20)
+
+  flat : Bool
+  flat = not (legalBox (header file .x) (header file .y) (header file .z))
+
+  with-room : readRefusal file room ≡ cond wrong 9 (cond flat 2 0)
+  unfolding readRefusal wrong flat
+  with-room = go (split wrong)
+    where
+      n : ℕ
+      n = header file .count
+
+      go : (wrong ≡ true) ⊎ (wrong ≡ false) → readRefusal file room ≡ cond wrong 9 (cond flat 2 0)
+      go (inl e) = rw e
+      go (inr e) =
+          let f = neither (ltb (length file) 20) (wrongTrailer n (distance file) (length file - 20)) e in
+          let few = right-trailer n (distance file) (length file - 20) (f .1) .0 in
+          rw (le-ltb room (3 * n) (omega arith))
+
+  pub never-ten : readRefusal file room ≢ 10
+  never-ten e = go wrong flat (sym with-room ∙ e)
+    where
+      go : (a b : Bool) → _≢_ {A = ℕ} (cond a 9 (cond b 2 0)) 10
+      go true b z = absurd (omega arith)
+      go false true z = absurd (omega arith)
+      go false false z = absurd (omega arith)
+
 pub any-room : (file : List ℕ) (room room′ : ℕ) → 3048 ≤ room → 3048 ≤ room′ → readRefusal file room ≡ readRefusal file room′
-unfolding readRefusal
-any-room file room room′ h h′ = go (split wrong)
-  where
-    n : ℕ
-    n = header file .count
-
-    wrong : Bool
-    wrong = ltb (length file) 20 || wrongTrailer n (distance file) (length file - 20)
-
-    go : (wrong ≡ true) ⊎ (wrong ≡ false) → readRefusal file room ≡ readRefusal file room′
-    go (inl e) = rw e
-    go (inr e) =
-        let f = neither (ltb (length file) 20) (wrongTrailer n (distance file) (length file - 20)) e in
-        let few = right-trailer n (distance file) (length file - 20) (f .1) .0 in
-        rw (le-ltb room (3 * n) (omega arith), le-ltb room′ (3 * n) (omega arith))
+unfolding wrong flat
+any-room file room room′ h h′ = with-room file room h ∙ sym (with-room file room′ h′)
 
 -- ---- the parts of a file
 

@@ -20,6 +20,8 @@ pub struct Survey {
     box_line: Option<usize>,
     lines: Vec<usize>,
     pub notes: Vec<String>,
+    /// How many lines of text were left out.
+    pub left_out: usize,
     /// The bytes of a node file.
     pub file: Option<Vec<u8>>,
 }
@@ -37,7 +39,7 @@ impl Survey {
             Kind::Nodes(file) => Survey::of_node_file(source, file, reading),
             Kind::RefusedNodes(refusal) => Err(source.refused(refusal)),
             Kind::Listing => Err(source.failure(
-                "a listing, which has no coordinates; name its node file (and by --listing the listing)",
+                "a listing, which has no coordinates; name its node file (and by --listing, where a command has it, the listing)",
             )),
             Kind::Text => Survey::of_text(&source, reading),
         }
@@ -55,6 +57,7 @@ impl Survey {
             box_line: None,
             lines: Vec::new(),
             notes: Vec::new(),
+            left_out: 0,
             file: Some(source.bytes),
         })
     }
@@ -77,6 +80,7 @@ impl Survey {
             box_line: read.box_line,
             lines: read.lines,
             notes: named(read.notes),
+            left_out: read.left_out,
             file: None,
         })
     }
@@ -91,9 +95,13 @@ impl Survey {
 
     /// In a line: the box, where it was taken from, and how many nodes there are.
     pub fn summary(&self) -> String {
-        let (name, sides, of_line) = (&self.name, spaced(self.sides), of_line(self.box_line));
         let nodes = counted(self.nodes.len(), "node");
-        format!("{name}: box {sides}{of_line}, {nodes}")
+        format!("{}: {}, {nodes}", self.name, self.box_read())
+    }
+
+    /// The box, and the line of text that it was taken from.
+    pub fn box_read(&self) -> String {
+        format!("box {}{}", spaced(self.sides), of_line(self.box_line))
     }
 
     /// By the proved builder.

@@ -31,6 +31,8 @@ pub struct Read {
     pub lines: Vec<usize>,
     /// What was passed over as a heading, and what was left out.
     pub notes: Vec<String>,
+    /// How many lines were left out.
+    pub left_out: usize,
 }
 
 /// At most so many faults are told.
@@ -104,6 +106,7 @@ struct Reader {
     lines: Vec<usize>,
     line_of: HashMap<Position, usize>,
     notes: Vec<String>,
+    left_out: usize,
     /// The first ones, and how many there are.
     faults: Vec<String>,
     fault_count: usize,
@@ -120,6 +123,7 @@ impl Reader {
             lines: Vec::new(),
             line_of: HashMap::new(),
             notes: Vec::new(),
+            left_out: 0,
             faults: Vec::new(),
             fault_count: 0,
             hints: BTreeSet::new(),
@@ -214,6 +218,7 @@ impl Reader {
             (None, None) => return self.put_node(line, node),
         };
         if self.reading.leave_out {
+            self.left_out += 1;
             self.notes.push(format!("line {line} left out: {known}"));
         } else {
             self.hints.insert(Hint::LeaveOut);
@@ -241,6 +246,7 @@ impl Reader {
                 nodes: self.nodes,
                 lines: self.lines,
                 notes: self.notes,
+                left_out: self.left_out,
             }),
             _ => Err(self.told()),
         }

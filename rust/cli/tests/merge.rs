@@ -50,7 +50,7 @@ gantry: a.csv: line 3 left out: 0 0 4 is a corner of the box, point 4 from the s
 gantry: a.csv: line 4 left out: same as line 2, 1 2 3
 gantry: a.csv: box 4 4 4, 2 nodes
 gantry: b.nodes: box 4 4 4, 2 nodes
-gantry: 4 nodes in two files: 3 left, 1 a second time, 0 on box corners
+gantry: 4 nodes in two files: 3 left, 1 a second time, 0 on box corners; 2 lines left out before
 "
     );
     assert_eq!(ran.status, Some(0));
@@ -103,8 +103,8 @@ fn refusals_are_explained() {
         ("a cut", cut),
         ("other cut", cut),
         ("a flat", flat),
-        ("a other", "a and other: refused 19 (unequal sides): box 4 4 4 in a, 4 5 4 in other"),
-        ("far other", "far and other: refused 19 (unequal sides): box 4 4 4 in far, 4 5 4 in other"),
+        ("a other", "a and other: refused 19 (unequal sides): box 4 4 4 in a, box 4 5 4 in other"),
+        ("far other", "far and other: refused 19 (unequal sides): box 4 4 4 in far, box 4 5 4 in other"),
         ("a far", far),
         ("far a", far),
         ("first second", "first and second: refused 6 (points full): 1,900 nodes are left, and 1,016 is the most: use fewer, or divide the box"),

@@ -139,7 +139,7 @@ fn files_that_are_refused() {
         ("empty", "refused 9 (trailer): it is empty"),
         ("none", "No such file or directory (os error 2)"),
         (".", "Is a directory (os error 21)"),
-        ("list", "a listing, which has no coordinates; name its node file (and by --listing the listing)"),
+        ("list", "a listing, which has no coordinates; name its node file (and by --listing, where a command has it, the listing)"),
         ("wide", "refused 9 (trailer): it is text in UTF-16: save it as CSV or text in UTF-8"),
         ("wider", "refused 9 (trailer): it is text in UTF-16: save it as CSV or text in UTF-8"),
         ("zipped", "refused 9 (trailer): it is a spreadsheet file or an archive: export the nodes as CSV"),

@@ -1,4 +1,4 @@
-//! The calls of documents 01 and 02, made fast: volumes in i64 that share cross products, lists of cavity cells in the work area,
+//! The calls of document 01 and of the requests that have landed, made fast: volumes in i64 that share cross products, lists of cavity cells in the work area,
 //! side codes instead of volumes where they decide, kept cells moved by runs, the far-side test by parity, the nodes of two
 //! files in a hash set.
 //! Every answer and every entry equals that of `plain`. From there come the record and answer types, and what has nothing

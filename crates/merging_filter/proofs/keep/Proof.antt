@@ -18,14 +18,14 @@ same-length c = search needs
 returns : tie.Need-returns
 returns c = λ ns₀ S. corner-stays S (c .before .before .point-at .ensures) (sym (c .before .is-corner .ensures) ∙ c .if1 .taken)
 
-place-of-requires : tie.Need-place-of-requires
-place-of-requires c κs = search needs
+probe-requires : tie.Need-probe-requires
+probe-requires c κs = search needs
 
 mul-if2 : tie.Need-mul-if2
-mul-if2 c = omega (arith, ends≤ (c .before .before .before .before .before .before .before .before .before .pre .0) (c .place-of .ensures))
+mul-if2 c = omega (arith, ends≤ (c .before .before .before .before .before .before .before .before .before .pre .0) (c .probe .ensures))
 
 slice-read-if2 : tie.Need-slice-read-if2
-slice-read-if2 c = omega (arith, ends≤ (c .before .before .before .before .before .before .before .before .before .before .pre .0) (c .before .place-of .ensures))
+slice-read-if2 c = omega (arith, ends≤ (c .before .before .before .before .before .before .before .before .before .before .pre .0) (c .before .probe .ensures))
 
 same-length-2 : tie.Need-same-length-2
 same-length-2 c = search needs
@@ -34,7 +34,7 @@ same-length-3 : tie.Need-same-length-3
 same-length-3 c = search needs
 
 returns-2 : tie.Need-returns-2
-returns-2 c = λ ns₀ S. found-stays S (c .before .before .before .before .before .before .before .point-at .ensures) (c .before .before .place-of .ensures) (c .if2 .taken)
+returns-2 c = λ ns₀ S. found-stays S (c .before .before .before .before .before .before .before .point-at .ensures) (c .before .before .probe .ensures) (c .if2 .taken)
 
 put-point-requires : tie.Need-put-point-requires
 put-point-requires c κs = search needs
@@ -46,10 +46,10 @@ cast-table : tie.Need-cast-table
 cast-table c = search needs
 
 mul-table : tie.Need-mul-table
-mul-table c = omega (arith, ends≤ (c .before .before .before .before .before .before .before .before .before .before .before .before .before .before .before .pre .0) (c .before .before .before .before .before .before .place-of .ensures))
+mul-table c = omega (arith, ends≤ (c .before .before .before .before .before .before .before .before .before .before .before .before .before .before .before .pre .0) (c .before .before .before .before .before .before .probe .ensures))
 
 slice-write-table : tie.Need-slice-write-table
-slice-write-table c = omega (arith, ends≤ (c .before .before .before .before .before .before .before .before .before .before .before .before .before .before .before .pre .0) (c .before .before .before .before .before .before .place-of .ensures))
+slice-write-table c = omega (arith, ends≤ (c .before .before .before .before .before .before .before .before .before .before .before .before .before .before .before .pre .0) (c .before .before .before .before .before .before .probe .ensures))
 
 add-result : tie.Need-add-result
 add-result c = search needs
@@ -66,7 +66,7 @@ returns-3 c =
     let f = t .before .before in
     let s = f .before .before .before .before .before .before .before .before .before in
     let q = f .before .before .before .before .before in
-    λ ns₀ S. joins S (q .point-at .ensures) (f .place-of .ensures) (sym (f .before .before .before .before .is-corner .ensures) ∙ f .before .before .before .if1 .left) (t .if2 .left) (omega arith) (omega arith) (c .before .before .put-point .ensures)
+    λ ns₀ S. joins S (q .point-at .ensures) (f .probe .ensures) (sym (f .before .before .before .before .is-corner .ensures) ∙ f .before .before .before .if1 .left) (t .if2 .left) (omega arith) (omega arith) (c .before .before .put-point .ensures)
 
 pub keep-spec : {M : Type 1} → statement M
 keep-spec =
@@ -76,7 +76,7 @@ keep-spec =
     is-corner-requires
     same-length
     returns
-    place-of-requires
+    probe-requires
     mul-if2
     slice-read-if2
     same-length-2

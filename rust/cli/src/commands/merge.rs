@@ -46,6 +46,8 @@ struct Counts {
     /// Each after the first at its position.
     repeated: usize,
     corners: usize,
+    /// Lines of text, told before.
+    left_out: usize,
 }
 
 impl Counts {
@@ -59,6 +61,7 @@ impl Counts {
             left,
             repeated: others.len() - left,
             corners: corners.len(),
+            left_out: first.left_out + second.left_out,
         }
     }
 
@@ -67,10 +70,15 @@ impl Counts {
             left,
             repeated,
             corners,
+            left_out,
         } = self;
         let all = counted(left + repeated + corners, "node");
+        let beside = match left_out {
+            0 => String::new(),
+            &lines => format!("; {} left out before", counted(lines, "line")),
+        };
         format!(
-            "{all} in two files: {left} left, {repeated} a second time, {corners} on box corners"
+            "{all} in two files: {left} left, {repeated} a second time, {corners} on box corners{beside}"
         )
     }
 }
@@ -81,11 +89,9 @@ fn refused(refusal: Refusal, surveys: &[Survey; 2]) -> Failure {
     let both = format!("{} and {}", first.name, second.name);
     let (who, why) = match refusal {
         Refusal::UnequalSides => {
-            let [a, b] = [first, second].map(|survey| spaced(survey.sides));
-            (
-                both,
-                format!("box {a} in {}, {b} in {}", first.name, second.name),
-            )
+            let boxes =
+                [first, second].map(|survey| format!("{} in {}", survey.box_read(), survey.name));
+            (both, boxes.join(", "))
         }
         Refusal::Outside => {
             let outside = surveys.iter().find_map(node_outside).unwrap_or(both);

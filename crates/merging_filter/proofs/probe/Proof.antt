@@ -4,26 +4,26 @@ use mathlib.Core.Logic.{inl, inr}
 use mathlib.Core.Path.{sym, ap, _∙_}
 use Rattle.geometry.specs.Volume.{samePosition}
 use Rattle.mesh.proofs.Checked.{same-position-of}
-use Rattle.merging.specs.Inner.{Passed}
-use Rattle.merging.proofs.Table.{start<, occupied<, none-passed, one-passed}
+use Rattle.merging.specs.Inner.{Probed}
+use Rattle.merging.proofs.Table.{hash<, occupied<, none-probed, one-probed}
 use borrow.Author.Needs.{needs}
-use Rattle.merging_filter.proofs.place_of.Statement.{statement}
-use Rattle.merging_filter.proofs.place_of.Tie as tie
+use Rattle.merging_filter.proofs.probe.Statement.{statement}
+use Rattle.merging_filter.proofs.probe.Tie as tie
 
 abbrev Inv-loop : tie.InvT-loop
-Inv-loop table nodes count p at₀ at = (at ≤ 2048 + count) × Passed nodes table p at
+Inv-loop table nodes count p at₀ at = (at ≤ 2048 + count) × Probed nodes table p at
 
 abbrev μ-loop : tie.MeasureT-loop
 μ-loop table nodes count p at₀ at = 2048 + count - at
 
-start-of-requires : tie.Need-start-of-requires Inv-loop μ-loop
-start-of-requires c κs = search needs
+hash-requires : tie.Need-hash-requires Inv-loop μ-loop
+hash-requires c κs = search needs
 
 loop-holds : tie.Need-loop-holds Inv-loop μ-loop
 loop-holds c =
-    let e = c .start-of .ensures in
-    let l = start< (c .before .before .before .args .p) in
-    (omega arith, none-passed e)
+    let e = c .hash .ensures in
+    let l = hash< (c .before .before .before .args .p) in
+    (omega arith, none-probed e)
 
 mul-if1 : tie.Need-mul-if1 Inv-loop μ-loop
 mul-if1 c = omega arith
@@ -54,7 +54,7 @@ returns c =
     let l = c .before .before .before .before .before .before .loop in
     let p = c .before .before .before .before .before .before .before .before .before .before .args .p in
     let e = c .before .same-position .ensures ∙ ap (λ q. samePosition q p) (c .before .before .point-at .ensures) in
-    record { passed = l .inv .1; here = inr (c .before .before .before .before .if1 .taken, same-position-of _ _ (sym e ∙ c .if2 .taken)) }
+    record { probed = l .inv .1; here = inr (c .before .before .before .before .if1 .taken, same-position-of _ _ (sym e ∙ c .if2 .taken)) }
 
 add-at : tie.Need-add-at Inv-loop μ-loop
 add-at c = omega arith
@@ -70,18 +70,18 @@ loop-again c =
     let l = c .before .before .before .before .before .before .loop in
     let e = c .before .same-position .ensures ∙ ap (λ q. samePosition q (s .args .p)) (c .before .before .point-at .ensures) in
     let d = c .before .before .before .before .if1 .taken in
-    (omega (arith, occupied< (s .pre .0) (l .at) d), one-passed (l .inv .1) d (sym e ∙ c .if2 .left))
+    (omega (arith, occupied< (s .pre .0) (l .at) d), one-probed (l .inv .1) d (sym e ∙ c .if2 .left))
 
 returns-2 : tie.Need-returns-2 Inv-loop μ-loop
-returns-2 c = record { passed = c .before .before .loop .inv .1; here = inl (c .if1 .left) }
+returns-2 c = record { probed = c .before .before .loop .inv .1; here = inl (c .if1 .left) }
 
-pub place-of-spec : {M : Type 1} → statement M
-place-of-spec =
+pub probe-spec : {M : Type 1} → statement M
+probe-spec =
     tie.close
     (tie.spec
     Inv-loop
     μ-loop
-    start-of-requires
+    hash-requires
     loop-holds
     mul-if1
     shared-slice-read-if1

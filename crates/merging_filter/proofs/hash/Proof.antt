@@ -1,8 +1,8 @@
 use mathlib.Core.Path.{refl}
-use Rattle.merging.specs.Inner.{startOf}
+use Rattle.merging.specs.Inner.{hashOf}
 use borrow.Author.Needs.{needs}
-use Rattle.merging_filter.proofs.start_of.Statement.{statement}
-use Rattle.merging_filter.proofs.start_of.Tie as tie
+use Rattle.merging_filter.proofs.hash.Statement.{statement}
+use Rattle.merging_filter.proofs.hash.Tie as tie
 
 cast-x : tie.Need-cast-x
 cast-x c = search needs
@@ -29,11 +29,11 @@ add-result-2 : tie.Need-add-result-2
 add-result-2 c = search needs
 
 returns : tie.Need-returns
-unfolding startOf
+unfolding hashOf
 returns c = refl
 
-pub start-of-spec : {M : Type 1} → statement M
-start-of-spec =
+pub hash-spec : {M : Type 1} → statement M
+hash-spec =
     tie.close
     (tie.spec
     cast-x
