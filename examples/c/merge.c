@@ -15,13 +15,16 @@ static uint32_t nodes[3 * NODES];
 static int read_file(const char *name, uint8_t *bytes, size_t *length)
 {
     FILE *file = fopen(name, "rb");
-    int is_read;
+    int is_read = 0;
 
-    if (file == NULL)
-        return 0;
-    *length = fread(bytes, 1, INPUT + 1, file);
-    is_read = !ferror(file) && *length <= INPUT;
-    return fclose(file) == 0 && is_read;
+    if (file != NULL) {
+        *length = fread(bytes, 1, INPUT + 1, file);
+        is_read = !ferror(file) && *length <= INPUT;
+        fclose(file);
+    }
+    if (!is_read)
+        printf("%s could not be read, or has more than %d bytes\n", name, INPUT);
+    return is_read;
 }
 
 static int write_file(const char *name, const uint8_t *bytes, size_t length)
@@ -42,10 +45,8 @@ int main(int argc, char **argv)
         printf("usage: merge FIRST SECOND MERGED\n");
         return 2;
     }
-    if (!read_file(argv[1], first, &first_length) || !read_file(argv[2], second, &second_length)) {
-        printf("a file could not be read, or has more than %d bytes\n", INPUT);
+    if (!read_file(argv[1], first, &first_length) || !read_file(argv[2], second, &second_length))
         return 1;
-    }
     gantry_written written = gantry_merge(first, first_length, second, second_length, merged, LONGEST);
     if (written.refusal != GANTRY_ACCEPTED) {
         printf("refused %u\n", (unsigned)written.refusal);

@@ -272,11 +272,9 @@ module _ (first second out : List ℕ) where
 
 -- ---- what a number of bytes tells
 
--- two files that are merged
+-- of two files that are merged
 pub record Merged (first second : List ℕ) : Type 0 where
   pub first-read : Accepted first 3048
-  pub second-read : Accepted second 3048
-  pub same : sameSides (header first) (header second) ≡ true
   pub inside : allInside (header first .x) (header first .y) (header first .z) (surveyed first second) ≡ true
   pub few : length (kept (header first) (surveyed first second)) ≤ 1016
 
@@ -293,8 +291,6 @@ module _ (first second : List ℕ) where
       let e = later (ltb 1016 (length (kept h ps))) 5 _ (d .1) in
       record {
         first-read = accepted first 3048 (a .0);
-        second-read = accepted second 3048 (b .0);
-        same = not-false (sameSides h (header second)) (c .0);
         inside = not-false (allInside (h .x) (h .y) (h .z) ps) (d .0);
         few = ltb-false 1016 (length (kept h ps)) (e .0);
       }

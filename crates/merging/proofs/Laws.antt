@@ -137,11 +137,11 @@ module _ (X Y Z : ℕ) where
   words h (p ∷ ps) e (suc (suc (suc k))) l = words h ps (and-right (inBox X Y Z p) (allInside X Y Z ps) e) k (omega arith)
 
 module _ {first second : List ℕ} (M : Merged first second) where
-  h : Header
+  abbrev h : Header
   h = header first
 
   legal : Legal (mergedHeader first second) (coordinates (left first second))
-  unfolding withCount kept h
+  unfolding withCount kept
   legal =
       let s = M .first-read .sides in
       let yz = and-right (legalSide (h .x)) _ s in

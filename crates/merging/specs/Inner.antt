@@ -32,7 +32,7 @@ isCorner h p = atEnd (h .x) (p .x) && (atEnd (h .y) (p .y) && atEnd (h .z) (p .z
 -- ---- a hash table of positions, by linear probing. An entry is 0 where the place is empty, else 1 more than the number of a kept node.
 
 -- Where the search for a position begins: a multiplicative hash. The factors are 2^30 over the powers of 1.2207.., the root of
--- r^4 = r + 1, so that neighbours on a lattice begin far apart.
+-- r^4 = r + 1, made odd, so that neighbours on a lattice begin far apart.
 unfoldable pub hashOf : Position → ℕ
 hashOf p = (879579789 * p .x + 720527587 * p .y + 590236393 * p .z) / 524288 % 2048
 
@@ -92,7 +92,7 @@ pub record FilteredAll (h : Header) (ns : List ℕ) (k : ℕ) (ns′ : List ℕ)
 
 -- ---- both files
 
--- of the second file, after the first, whose header is a
+-- 9 2 19 of the second file, after the first, whose header is a
 abbrev pub secondRefusal : Header → List ℕ → ℕ
 secondRefusal a second = cond (not (eqb (fileRefusal second) 0)) (fileRefusal second) (cond (not (sameSides a (header second))) 19 0)
 
@@ -103,6 +103,7 @@ SecondRead a second ns (Nodes h) ns′ =
     (secondRefusal a second ≡ 0) × (h ≡ withCount a (a .count + header second .count)) ×
     ((before old : List ℕ) → length before ≡ 3 * a .count → ns ≡ over before old → ns′ ≡ over (before ++ nodes second) old)
 
+-- 9 2 of the first, 9 2 of the second, 19
 abbrev pub bothRefusal : List ℕ → List ℕ → ℕ
 bothRefusal first second = cond (not (eqb (fileRefusal first) 0)) (fileRefusal first) (secondRefusal (header first) second)
 
@@ -113,6 +114,7 @@ pub record Both (first second : List ℕ) (h : Header) (ns : List ℕ) : Type 0 
   pub box : h ≡ withCount (header first) (h .count)
   pub all : positionsIn (h .count) ns ≡ surveyed first second
 
+-- what reading both answers and leaves
 abbrev pub BothRead : List ℕ → List ℕ → Read → List ℕ → Type 0
 BothRead first second (ReadRefused e) ns′ = (e ≡ bothRefusal first second) × (e ≢ 0)
 BothRead first second (Nodes h) ns′ = (bothRefusal first second ≡ 0) × Both first second h ns′
@@ -122,10 +124,12 @@ BothRead first second (Nodes h) ns′ = (bothRefusal first second ≡ 0) × Both
 abbrev pub keptFile : Header → List Position → List ℕ
 keptFile h ps = fileOfPositions h (kept h ps)
 
+-- 4 6 10
 abbrev pub keptRefusal : Header → List Position → ℕ → ℕ
 keptRefusal h ps room =
     cond (not (allInside (h .x) (h .y) (h .z) ps)) 4 (cond (ltb 1016 (length (kept h ps))) 6 (cond (ltb room (length (keptFile h ps))) 10 0))
 
+-- what writing it into out answers and leaves there
 pub record KeptLeaves (h : Header) (ps : List Position) (out : List ℕ) (r : Written) (out′ : List ℕ) : Type 0 where
   pub answer : r ≡ cond (eqb (keptRefusal h ps (length out)) 0) (Bytes (length (keptFile h ps))) (Refused (keptRefusal h ps (length out)))
   pub output : out′ ≡ cond (eqb (keptRefusal h ps (length out)) 0) (over (keptFile h ps) out) out
