@@ -40,7 +40,7 @@ weighted-form t q φ c =
     sum-times 4 (λ k. form t q (4 * c + k) *ℤ φ (corner t c k)) (pos (q .w) *ℤ pos (q .w))
 
 -- 1 at the point number v, 0 elsewhere
-abbrev onlyAt : ℕ → ℕ → ℤ
+abbrev pub onlyAt : ℕ → ℕ → ℤ
 onlyAt v u = cond (eqb u v) (pos 1) (pos 0)
 
 placed-at : (t : Tables) (c i v : ℕ) → corner t c i ≡ v → placed t c i ≡ whole (point t v)
@@ -49,12 +49,12 @@ placed-at t c i v e = ap (λ u. whole (point t u)) e
 
 -- a table of values that is 0 at a cell's corners is 0 in it; one that is 1 at one corner and 0 at the others is that corner's weight
 module _ (t : Tables) (q : Place) (v c : ℕ) where
-  value-none : ((k : ℕ) → k < 4 → corner t c k ≢ v) → formWeighted t q (onlyAt v) c ≡ pos 0
+  pub value-none : ((k : ℕ) → k < 4 → corner t c k ≢ v) → formWeighted t q (onlyAt v) c ≡ pos 0
   unfolding formWeighted
   value-none off =
       sum-zero 4 (λ k. form t q (4 * c + k) *ℤ onlyAt v (corner t c k)) (λ k h. rw (ne-eqb (corner t c k) v (off k h)) (*ℤ-zero (form t q (4 * c + k))))
 
-  value-one : (i : ℕ) → i < 4 → corner t c i ≡ v → ((k : ℕ) → k < 4 → k ≢ i → corner t c k ≢ v) → formWeighted t q (onlyAt v) c ≡ form t q (4 * c + i)
+  pub value-one : (i : ℕ) → i < 4 → corner t c i ≡ v → ((k : ℕ) → k < 4 → k ≢ i → corner t c k ≢ v) → formWeighted t q (onlyAt v) c ≡ form t q (4 * c + i)
   unfolding formWeighted
   value-one i h e off =
       sum-one 4 (λ k. form t q (4 * c + k) *ℤ onlyAt v (corner t c k)) i h (λ k l d. rw (ne-eqb (corner t c k) v (off k l d)) (*ℤ-zero (form t q (4 * c + k)))) ∙

@@ -37,7 +37,7 @@ module _ (m : Mesh) (t : Tables) (p : Position) (a : Answers) where
 
 -- v is the work length that the mesh is known for, w that of the call
 module _ (m : Mesh) (t : Tables) (v w : ℕ) (p : Position) (a : Answers) (M : MeshFor m t v) (N : NodeFits m t w p a) (h : cellCapacity t w ≤ cellCapacity t v) where
-  inserted : Inserted (m .x) (m .y) (m .z) (pointCapacity t) (cellCapacity t v) (m .points) (m .cells) t p (lastCavity m t p a)
+  pub inserted : Inserted (m .x) (m .y) (m .z) (pointCapacity t) (cellCapacity t v) (m .points) (m .cells) t p (lastCavity m t p a)
   unfolding lastCavity cellsMade
   inserted =
       insertion M (room-of t v) p (N .box) (N .free) (N .holder .at)

@@ -1,18 +1,21 @@
 -- What a call on a mesh answers, from its tests.
 use Prim.Native.Nat.{ℕ}
 use mathlib.Core.Bool.{true, false}
-use mathlib.Core.Logic.{_≢_}
+use mathlib.Core.Logic.{_≢_, _⊎_, inl, inr}
 use mathlib.Core.Path.{_≡_, sym, ap, _∙_}
+use native.Mathlib.Omega.{arith}
 use borrow.Author.Tests.{ne-eqb}
-use Rattle.arith.specs.Table.{firstBelow}
-use Rattle.arith.proofs.Tables.{first-any, first-all}
+use Rattle.arith.specs.Table.{anyBelow}
+use Rattle.arith.proofs.Flags.{fails}
+use Rattle.arith.proofs.Tables.{Found, any-found, any-intro}
 use Rattle.geometry.specs.declared.Position.{Position}
 use Rattle.geometry.specs.Volume.{inBox}
 use Rattle.mesh.specs.declared.Mesh.{Mesh}
 use Rattle.mesh.specs.Tables.{Tables}
 use Rattle.mesh.specs.Refusal.{meshRefusal}
 use Rattle.locate.specs.declared.Located.the-variants.{Cell, Refused}
-use Rattle.locate.specs.Locate.{holds, locateRefusal, locateCall}
+use Rattle.locate.specs.Locate.{holds, firstHolder, locateRefusal, locateCall}
+use Rattle.locate.proofs.First.{NoneHolds, Leads, leader, none-is, holder-leads}
 
 module _ (m : Mesh) (t : Tables) (w : ℕ) where
   module _ (q : Position) where
@@ -24,12 +27,26 @@ module _ (m : Mesh) (t : Tables) (w : ℕ) where
     unfolding locateCall locateRefusal
     outside e b = rw (e, b)
 
-    pub unheld : meshRefusal m t w false ≡ 0 → inBox (m .x) (m .y) (m .z) q ≡ true → {n : ℕ} → n ≡ firstBelow (m .cells) (holds t q) → n ≡ m .cells →
+    -- what is found is the cell count just where no cell holds q
+    none-held : firstHolder t (m .cells) q ≡ m .cells → anyBelow (m .cells) (holds t q) ≡ false
+    none-held e = fails (anyBelow (m .cells) (holds t q)) (λ h. by (any-found (m .cells) (holds t q) h))
+      where
+        by : Found (m .cells) (holds t q) → ⊥
+        by r = let l = holder-leads t q (m .cells) (r .at) (r .below) (r .passes) .cell< in absurd (omega (arith, l, e))
+
+    some-held : firstHolder t (m .cells) q ≢ m .cells → anyBelow (m .cells) (holds t q) ≡ true
+    some-held d = go (leader t q (m .cells))
+      where
+        go : ((b : ℕ) × Leads t q (m .cells) b) ⊎ NoneHolds t q (m .cells) → anyBelow (m .cells) (holds t q) ≡ true
+        go (inl (b, l)) = any-intro (m .cells) (holds t q) b (l .cell<) (l .holding)
+        go (inr none) = absurd (d (none-is t q (m .cells) none))
+
+    pub unheld : meshRefusal m t w false ≡ 0 → inBox (m .x) (m .y) (m .z) q ≡ true → {n : ℕ} → n ≡ firstHolder t (m .cells) q → n ≡ m .cells →
         Refused 7 ≡ locateCall m t w q
     unfolding locateCall locateRefusal
-    unheld e b f h = rw (e, b, first-all (m .cells) (holds t q) (sym f ∙ h))
+    unheld e b f h = rw (e, b, none-held (sym f ∙ h))
 
-    pub found : meshRefusal m t w false ≡ 0 → inBox (m .x) (m .y) (m .z) q ≡ true → {n : ℕ} → n ≡ firstBelow (m .cells) (holds t q) → n ≢ m .cells →
+    pub found : meshRefusal m t w false ≡ 0 → inBox (m .x) (m .y) (m .z) q ≡ true → {n : ℕ} → n ≡ firstHolder t (m .cells) q → n ≢ m .cells →
         Cell n ≡ locateCall m t w q
     unfolding locateCall locateRefusal
-    found e b f d = rw (e, b, first-any (m .cells) (holds t q) (λ h. d (f ∙ h))) (ap Cell f)
+    found e b f d = rw (e, b, some-held (λ h. d (f ∙ h))) (ap Cell f)

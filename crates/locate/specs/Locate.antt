@@ -1,21 +1,36 @@
 -- Locating a position.
 use Prim.Native.Nat.{ℕ, _+_, _*_}
-use mathlib.Core.Bool.{Bool, false, not, cond}
+use mathlib.Core.Bool.{Bool, false, not, _&&_, cond}
+use mathlib.Core.List.{List}
 use lib.Dec.{eqb}
 use lib.IntN.{pos}
 use lib.Signed.{leZ}
-use Rattle.arith.specs.Table.{allBelow, anyBelow, firstBelow}
+use Rattle.arith.specs.Table.{tabulate, allBelow, anyBelow, firstBelow}
 use Rattle.geometry.specs.declared.Position.{Position}
 use Rattle.geometry.specs.Volume.{inBox}
 use Rattle.mesh.specs.declared.Mesh.{Mesh}
-use Rattle.mesh.specs.Tables.{Tables, side}
+use Rattle.mesh.specs.Tables.{Tables, corner, side}
 use Rattle.locate.specs.declared.Located.{Located}
 use Rattle.locate.specs.declared.Located.the-variants.{Cell, Refused}
 use Rattle.mesh.specs.Refusal.{meshRefusal}
+use Rattle.locate.specs.Order.{sorted, lexBefore}
 
 -- '"Holds" includes the cell's faces, edges and corners.'
 unfoldable pub holds : Tables → Position → ℕ → Bool
 holds t p c = allBelow 4 (λ k. leZ (pos 0) (side t p (4 * c + k)))
+
+-- a cell's 'four corner numbers, sorted upward'
+unfoldable pub sortedCorners : Tables → ℕ → List ℕ
+sortedCorners t c = sorted (tabulate 4 (corner t c))
+
+-- cell d holds p, and its sorted corners come before those of c
+unfoldable pub holderBefore : Tables → Position → ℕ → ℕ → Bool
+holderBefore t p c d = holds t p d && lexBefore (sortedCorners t d) (sortedCorners t c)
+
+-- document 02 §3: of n cells, 'among the cells that hold the position, the one whose four corner numbers, sorted upward, come first in
+-- order'. In a mesh there is just one: `one-cell` (located/proofs/Theorem).
+unfoldable pub firstHolder : Tables → ℕ → Position → ℕ
+firstHolder t n p = firstBelow n (λ c. holds t p c && not (anyBelow n (holderBefore t p c)))
 
 -- refusals 1 2 3 4 7. 7 never occurs: `never-seven` (covering/proofs/NeverSeven).
 unfoldable pub locateRefusal : Mesh → Tables → ℕ → Position → ℕ
@@ -23,7 +38,7 @@ locateRefusal m t w p =
     cond (not (eqb (meshRefusal m t w false) 0)) (meshRefusal m t w false)
     (cond (not (inBox (m .x) (m .y) (m .z) p)) 4 (cond (not (anyBelow (m .cells) (holds t p))) 7 0))
 
--- condition 2: the lowest-numbered cell that holds the position
+-- condition 2, as §3 amends it
 unfoldable pub locateCall : Mesh → Tables → ℕ → Position → Located
 locateCall m t w p =
-    cond (eqb (locateRefusal m t w p) 0) (Cell (firstBelow (m .cells) (holds t p))) (Refused (locateRefusal m t w p))
+    cond (eqb (locateRefusal m t w p) 0) (Cell (firstHolder t (m .cells) p)) (Refused (locateRefusal m t w p))

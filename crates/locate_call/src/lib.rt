@@ -1,44 +1,64 @@
-// Locating a position: the lowest-numbered cell that holds it.
+// Locating a position: of the cells that hold it, the one whose sorted corners come first.
 
 ghost use mathlib.Core.List.{[]};
 ghost use mathlib.Core.Path.{_≡_};
 ghost use lib.ListN.{length};
-ghost use Rattle.arith.specs.Table.{firstBelow};
 ghost use Rattle.geometry.specs.Volume.{InRange};
 ghost use Rattle.mesh.specs.Tables.{tables, tablesBefore, cleared};
 ghost use Rattle.mesh.specs.Inner.{Solid};
-ghost use Rattle.locate.specs.Locate.{holds, locateCall};
+ghost use Rattle.locate.specs.Locate.{firstHolder, locateCall};
+ghost use Rattle.locate.specs.Inner.{better};
 use geometry::Position;
 use geometry::volume::in_box;
+use locate::Candidate;
 use locate::Located;
 use locate_holding::cell_holds;
 use locate_holding::shared_bits;
 use locate_holding::side_codes;
+use locate_key::key_of;
 use mesh::Mesh;
 use mesh_check::mesh_refusal;
 use mesh_tables::clear;
 use mesh_tables::four_at;
 
-// The lowest-numbered cell that holds q; the cell count where none does.
+// Above the key of every cell.
+const ABOVE_KEYS: u64 = 1099511627776;
+
+// Cell c with the corners k where it comes before the candidate, else the candidate.
+fn better(k: [u16; 4], c: usize, candidate: Candidate) -> Candidate
+    ensures { λ r. ⌜ r ≡ better k c candidate ⌝ }
+{
+    let key = key_of(k);
+    if key < candidate.key {
+        return Candidate { cell: c, key: key };
+    }
+    candidate
+}
+
+// Of the cells that hold q, the one whose sorted corners come first; the cell count where none does.
 fn first_holder(points: &[u32], corners: &[u16], np: usize, n: usize, q: Position) -> usize
     requires { ⌜ Solid (now points) (now corners) np n × InRange q ⌝ }
-    ensures { λ r. ⌜ r ≡ firstBelow n (holds (tables (now (points .entry)) (now (corners .entry)) []) q) ⌝ }
+    ensures { λ r. ⌜ r ≡ firstHolder (tables (now (points .entry)) (now (corners .entry)) []) n q ⌝ }
 {
     let codes = side_codes(points, np, q);
+    let mut first = Candidate {
+        cell: n,
+        key: ABOVE_KEYS,
+    };
     let mut c: usize = 0;
     while c < n {
         let k = four_at(corners, c);
         if shared_bits(&codes, k) == 0 {
             if cell_holds(points, k, q) {
-                return c;
+                first = better(k, c, first);
             }
         }
         c += 1;
     }
-    n
+    first.cell
 }
 
-// The lowest-numbered cell that holds the position.
+// Of the cells that hold the position, the one whose four corner numbers, sorted upward, come first in order.
 pub fn locate(
     mesh: Mesh,
     points: &[u32],

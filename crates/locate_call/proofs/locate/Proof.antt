@@ -3,14 +3,13 @@ use mathlib.Core.Bool.{true, false}
 use lib.ListN.{length}
 use mathlib.Core.Path.{_≡_, sym, ap, _∙_}
 use borrow.Author.Needs.{needs}
-use Rattle.arith.specs.Table.{firstBelow}
 use Rattle.arith.proofs.Flags.{test-failed, test-passed}
-use Rattle.arith.proofs.Tables.{first≤}
 use Rattle.geometry.specs.Volume.{inBox}
 use Rattle.mesh.specs.Tables.{Tables, corner, cornerAt, side, tables}
 use Rattle.mesh.specs.Refusal.{meshRefusal}
 use Rattle.mesh.proofs.Verdict.{solid, in-range, passed}
-use Rattle.locate.specs.Locate.{holds}
+use Rattle.locate.specs.Locate.{holds, sortedCorners, holderBefore, firstHolder}
+use Rattle.locate.proofs.First.{holder≤}
 use Rattle.locate.proofs.Finding.{refused, outside, unheld, found}
 use Rattle.locate_call.proofs.locate.Statement.{statement}
 use Rattle.locate_call.proofs.locate.Tie as tie
@@ -35,8 +34,8 @@ inside c = test-passed (c .before .in-box .ensures) (c .if2 .left)
 first : (c : tie.After-first-holder) →
     let r = c .before .before .before .before .before .before in
     let a = start r .args in
-    c .first-holder .result ≡ firstBelow (a .mesh .cells) (holds (lent r) (a .q))
-unfolding holds side cornerAt corner
+    c .first-holder .result ≡ firstHolder (lent r) (a .mesh .cells) (a .q)
+unfolding firstHolder holderBefore holds sortedCorners side cornerAt corner
 first c = c .first-holder .ensures
 
 clear-requires : tie.Need-clear-requires
@@ -87,7 +86,7 @@ cast-t16 : tie.Need-cast-t16
 cast-t16 c =
     let r = c .before .before .before .before .before .before .before in
     let few = solid _ _ _ _ _ (passed _ _ _ false (none (c .before .before .before .before .before .before))) .celled .cells-few in
-    record { fits = omega (arith, first (c .before), first≤ (start r .args .mesh .cells) (holds (lent r) (start r .args .q)), few) }
+    record { fits = omega (arith, first (c .before), holder≤ (lent r) (start r .args .q) (start r .args .mesh .cells), few) }
 
 same-length-4 : tie.Need-same-length-4
 same-length-4 c = search needs

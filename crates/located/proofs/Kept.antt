@@ -1,0 +1,138 @@
+-- A position whose located cell is outside the corrected cavity is located in that cell after the insertion, though new cells may hold it too. With the
+-- value 1 at the new point and 0 at all others, the kept cell gives the position the value 0; so a new cell that holds it has it on the old face; so the
+-- old cell of that face held it and did not come before; and with a corner replaced by the greatest number it does not come before either.
+use Prim.Native.Nat.{ℕ, _+_, _*_, _≤_, _<_}
+use mathlib.Core.Bool.{Bool, true, false}
+use mathlib.Core.List.{List}
+use mathlib.Core.Logic.{_⊎_, inl, inr}
+use mathlib.Core.Path.{_≡_, refl, sym, ap, _∙_, subst}
+use native.Mathlib.Omega.{arith}
+use native.Mathlib.Decide.{ℕ-discrete}
+use lib.IntN.{pos, _*ℤ_, *ℤ-comm, zero-*ℤ}
+use lib.Signed.{_≤ℤ_, leZ}
+use Rattle.arith.proofs.Flags.{clash, fails}
+use Rattle.arith.proofs.Order.{cancel-zero}
+use Rattle.arith.proofs.Tables.{all-cong}
+use Rattle.geometry.specs.declared.Position.{Position}
+use Rattle.geometry.specs.Volume.{InBox, volume, replaced}
+use Rattle.geometry.proofs.Places.{replaced-cong, replaced-other}
+use Rattle.geometry.proofs.Algebra.{volume-cong}
+use Rattle.mesh.specs.Tables.{Tables, cellOf, opposite, corner, cornerAt, cellVolume, side}
+use Rattle.mesh.specs.Mesh.{IsMesh}
+use Rattle.mesh.proofs.FaceNumbers.{opposite<, cell<}
+use Rattle.mesh.proofs.Held.{Holds, side-at, own-corner, weighted-nonneg}
+use Rattle.locate.specs.Order.{lexBefore}
+use Rattle.locate.specs.Locate.{holds, sortedCorners, firstHolder}
+use Rattle.locate.proofs.Order.{Below, before-below}
+use Rattle.locate.proofs.First.{Leads, corners-cong, corners-mono, holder-leads}
+use Rattle.cavity.specs.Cavity.{visible}
+use Rattle.cavity.proofs.Tests.{holds-of, holds-yes}
+use Rattle.star.specs.Star.{kept?, keptNumber, madeNumber, newCount, star}
+use Rattle.star.proofs.Star.{Fits, Origin, origin, from-kept, from-made, kept-new<, made<, new-room, kept-corner, made-apex, made-other, kept-position, made-position}
+use Rattle.covering.specs.Place.{whole}
+use Rattle.covering.proofs.Linear.{form, form-whole, HoldsForm}
+use Rattle.covering.proofs.Parts.{holds-whole, whole-in-box, holds-form}
+use Rattle.covering.proofs.Shared.{formWeighted, same-value}
+use Rattle.covering.proofs.Holders.{onlyAt, value-none, value-one}
+use Rattle.located.specs.Claim.{ComesFirst}
+use Rattle.located.proofs.Theorem.{none-before, holder-first, first-once}
+
+-- a cell that holds q, by the forms
+by-forms : (t : Tables) (q : Position) (c : ℕ) → holds t q c ≡ true → HoldsForm t (whole q) c
+by-forms t q c h = holds-form t (whole q) (omega arith) c .0 (holds-whole t q c ∙ h)
+
+module _ {X Y Z pc cc np n : ℕ} {t : Tables} (M : IsMesh X Y Z pc cc np n t) {p : Position} {s : List Bool} (F : Fits pc cc np n t p s)
+    (M′ : IsMesh X Y Z pc cc (np + 1) (newCount t n p s) (star t n p np s)) where
+  abbrev t′ : Tables
+  t′ = star t n p np s
+
+  abbrev n′ : ℕ
+  n′ = newCount t n p s
+
+  -- ---- kept cells
+
+  module _ (c : ℕ) (c< : c < n) (k : kept? s c ≡ true) where
+    kept-side : (q : Position) (i : ℕ) → i < 4 → side t′ q (4 * keptNumber s c + i) ≡ side t q (4 * c + i)
+    kept-side q i h =
+        side-at t′ q (keptNumber s c) i h ∙
+        (volume-cong (replaced (cornerAt t′ (keptNumber s c)) i q) (replaced (cornerAt t c) i q)
+        (replaced-cong (cornerAt t′ (keptNumber s c)) (cornerAt t c) i q q (kept-position F (M .corner<) c c< k) refl) ∙ sym (side-at t q c i h))
+
+    kept-holds : (q : Position) → holds t′ q (keptNumber s c) ≡ holds t q c
+    unfolding holds
+    kept-holds q =
+        all-cong 4 (λ i. leZ (pos 0) (side t′ q (4 * keptNumber s c + i))) (λ i. leZ (pos 0) (side t q (4 * c + i))) (λ i h. ap (leZ (pos 0)) (kept-side q i h))
+
+    pub kept-corners : sortedCorners t′ (keptNumber s c) ≡ sortedCorners t c
+    kept-corners = corners-cong t′ t (keptNumber s c) c (kept-corner F c c< k)
+
+  -- ---- a new cell over the face f, where a kept cell c holds q
+
+  module _ (f : ℕ) (f< : f < 4 * n) (v : visible t p s f ≡ true) where
+    abbrev e : ℕ
+    e = madeNumber t n p s f
+
+    abbrev d : ℕ
+    d = cellOf f
+
+    -- one corner of the face's old cell is replaced by the greatest number
+    made-corners : Below (sortedCorners t d) (sortedCorners t′ e)
+    made-corners = corners-mono t t′ d e (λ i h. go i h (ℕ-discrete i (opposite f)))
+      where
+        go : (i : ℕ) → i < 4 → Dec (i ≡ opposite f) → corner t d i ≤ corner t′ e i
+        go i h (yes q) = omega (arith, M .corner< d i (cell< f f<) h, made-apex F f f< v i h q)
+        go i h (no q) = omega (arith, made-other F f f< v i h q)
+
+    module _ (q : Position) (inside : InBox X Y Z q) (c : ℕ) (c< : c < n) (k : kept? s c ≡ true) (held-c : holds t q c ≡ true) (held-e : holds t′ q e ≡ true) where
+      -- q has no part of the new point
+      on-face : form t′ (whole q) (4 * e + opposite f) ≡ pos 0
+      on-face =
+          cancel-zero {a = cellVolume t′ (keptNumber s c)} (form t′ (whole q) (4 * e + opposite f)) (M′ .positive (keptNumber s c) (kept-new< t n p s c c< k))
+          (*ℤ-comm (cellVolume t′ (keptNumber s c)) (form t′ (whole q) (4 * e + opposite f)) ∙
+          (ap (λ z. z *ℤ cellVolume t′ (keptNumber s c)) (sym has-new) ∙
+          (same-value M′ (new-room F) (whole q) (whole-in-box inside) (onlyAt np) e (keptNumber s c) (made< t n p s f f< v) (kept-new< t n p s c c< k)
+          (by-forms t′ q e held-e) (by-forms t′ q (keptNumber s c) (kept-holds c c< k q ∙ held-c)) ∙
+          (ap (λ z. z *ℤ cellVolume t′ e) has-none ∙ zero-*ℤ (cellVolume t′ e)))))
+        where
+          has-new : formWeighted t′ (whole q) (onlyAt np) e ≡ form t′ (whole q) (4 * e + opposite f)
+          has-new =
+              value-one t′ (whole q) np e (opposite f) (opposite< f) (made-apex F f f< v (opposite f) (opposite< f) refl)
+              (λ i h a b. let l : corner t d i < np = M .corner< d i (cell< f f<) h in omega (arith, made-other F f f< v i h a, b))
+
+          has-none : formWeighted t′ (whole q) (onlyAt np) (keptNumber s c) ≡ pos 0
+          has-none = value-none t′ (whole q) np (keptNumber s c) (λ i h b. let l : corner t c i < np = M .corner< c i c< h in omega (arith, kept-corner F c c< k i h, b))
+
+      -- so the old cell of the face held it
+      old-holds : holds t q d ≡ true
+      old-holds = holds-yes t q d (unfold Holds in λ l hl.
+          weighted-nonneg (cornerAt t′ e) (cornerAt t d) q l hl (unfold cellVolume in M′ .positive e (made< t n p s f f< v)) (unfold Holds in holds-of t′ q e held-e)
+          (λ i h. go l hl i h (ℕ-discrete i (opposite f))))
+        where
+          go : (l : ℕ) → l < 4 → (i : ℕ) → i < 4 → Dec (i ≡ opposite f) → (volume (replaced (cornerAt t′ e) i q) ≡ pos 0) ⊎ (pos 0 ≤ℤ volume (replaced (cornerAt t d) l (cornerAt t′ e i)))
+          go l hl i h (yes a) =
+              inl (sym (side-at t′ q e i h) ∙ (sym (form-whole t′ q (4 * e + i)) ∙ (ap (λ x. form t′ (whole q) (4 * e + x)) a ∙ on-face)))
+          go l hl i h (no a) =
+              inr (subst (λ x. pos 0 ≤ℤ volume (replaced (cornerAt t d) l x)) (sym (made-position F (M .corner<) f f< v i h ∙ replaced-other (cornerAt t d) (opposite f) p i a))
+              (own-corner (cornerAt t d) l i hl h (unfold cellVolume in M .positive d (cell< f f<))))
+
+  -- the cell that comes first does so again
+  first-kept : (q : Position) → InBox X Y Z q → (c : ℕ) → Leads t q n c → kept? s c ≡ true → ComesFirst t′ n′ q (keptNumber s c)
+  first-kept q inside c l k =
+      none-before M′ (new-room F) q (keptNumber s c) (kept-new< t n p s c (l .cell<) k) (kept-holds c (l .cell<) k q ∙ l .holding)
+      (λ e e< h. ap (lexBefore (sortedCorners t′ e)) (kept-corners c (l .cell<) k) ∙ go e h (origin t n p s e e<))
+    where
+      go : (e : ℕ) → holds t′ q e ≡ true → Origin t n p s e → lexBefore (sortedCorners t′ e) (sortedCorners t c) ≡ false
+      go e h (from-kept d d< kd a) =
+          ap (λ x. lexBefore x (sortedCorners t c)) (ap (sortedCorners t′) a ∙ kept-corners d d< kd) ∙
+          l .first d d< (sym (kept-holds d d< kd q) ∙ (ap (holds t′ q) (sym a) ∙ h))
+      go e h (from-made g g< v a) =
+          fails (lexBefore (sortedCorners t′ e) (sortedCorners t c)) (λ b. clash (before-below (made-corners g g< v) (sortedCorners t c) (ap (λ x. lexBefore (sortedCorners t′ x) (sortedCorners t c)) (sym a) ∙ b))
+          (l .first (cellOf g) (cell< g g<) (old-holds g g< v q inside c (l .cell<) k (l .holding) (ap (holds t′ q) (sym a) ∙ h))))
+
+  pub holder-kept : (q : Position) → InBox X Y Z q → kept? s (firstHolder t n q) ≡ true → sortedCorners t′ (firstHolder t′ n′ q) ≡ sortedCorners t (firstHolder t n q)
+  holder-kept q inside k =
+      let f = holder-first M (F .room) q inside in
+      let l = holder-leads t q n (firstHolder t n q) (f .cell<) (f .holding) in
+      ap (sortedCorners t′)
+      (first-once (keptNumber s (firstHolder t n q)) (firstHolder t′ n′ q) (first-kept q inside (firstHolder t n q) l k) (holder-first M′ (new-room F) q inside)) ∙
+      kept-corners (firstHolder t n q) (f .cell<) k

@@ -1,0 +1,3 @@
+-- Document 02 §3: one cell for a position.
+pub mod Claim
+pub mod Parked

@@ -1,0 +1,23 @@
+-- The parked head, by computation.
+use mathlib.Core.Path.{refl}
+use Rattle.locate.specs.Order.{insertSorted, sorted, lexBefore}
+use Rattle.locate.specs.Locate.{sortedCorners, holderBefore, firstHolder, locateRefusal, locateCall}
+use Rattle.located.specs.Parked.{outsideIf, outsideCall, outsideCalls}
+use Rattle.pieces.proofs.Opened.{opened}
+use Rattle.pieces_parked.specs.Head.{before, insertion, after, head, ParkedHead}
+
+parked-head : ParkedHead
+unfolding opened insertSorted sorted lexBefore sortedCorners holderBefore firstHolder locateRefusal locateCall outsideIf outsideCall outsideCalls
+    before insertion after head
+parked-head =
+    record {
+      held = refl;
+      corners-10 = refl;
+      corners-11 = refl;
+      located = refl;
+      outside = refl;
+      located-again = refl;
+      same-corners = refl;
+      held-again = refl;
+      new-cell = refl;
+    }

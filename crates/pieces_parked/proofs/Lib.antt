@@ -1,0 +1,2 @@
+-- The parked head.
+pub mod Head

@@ -1,0 +1,40 @@
+-- A head parked on a shared face while a node goes in elsewhere: README's example.
+use mathlib.Core.Bool.{true}
+use mathlib.Core.List.{[], _∷_}
+use mathlib.Core.Path.{_≡_}
+use Rattle.arith.specs.Table.{selectBelow}
+use Rattle.geometry.specs.declared.Position.{Position}
+use Rattle.geometry.specs.Volume.{position}
+use Rattle.locate.specs.declared.Located.the-variants.{Cell}
+use Rattle.locate.specs.Locate.{holds, sortedCorners, locateCall}
+use Rattle.calls.specs.Calls.{Build, startBuild, Call, by-sphere, meshAfter}
+use Rattle.located.specs.Parked.{outsideCalls}
+use Rattle.pieces.specs.Piece.{lent}
+
+-- the box 4, 4, 4 with a node in its middle
+unfoldable pub before : Build
+before = meshAfter (startBuild 4 4 4 (lent 18) 54) (by-sphere 54 (position 2 2 2) ∷ [])
+
+-- the middle of the wall x = 4 goes in
+unfoldable pub insertion : Call
+insertion = by-sphere 54 (position 4 2 2)
+
+unfoldable pub after : Build
+after = meshAfter before (insertion ∷ [])
+
+unfoldable pub head : Position
+head = position 3 1 2
+
+pub record ParkedHead : Type 0 where
+  -- two of twelve cells hold it; the lowest-numbered one is not the one that comes first
+  pub held : selectBelow 12 (holds (before .tables) head) ≡ 10 ∷ 11 ∷ []
+  pub corners-10 : sortedCorners (before .tables) 10 ≡ 1 ∷ 5 ∷ 7 ∷ 8 ∷ []
+  pub corners-11 : sortedCorners (before .tables) 11 ≡ 0 ∷ 1 ∷ 5 ∷ 8 ∷ []
+  pub located : locateCall (before .mesh) (before .tables) 54 head ≡ Cell 11
+  -- the cell that comes first is outside the corrected cavity, and has another number then
+  pub outside : outsideCalls before (insertion ∷ []) head ≡ true
+  pub located-again : locateCall (after .mesh) (after .tables) 54 head ≡ Cell 9
+  pub same-corners : sortedCorners (after .tables) 9 ≡ 0 ∷ 1 ∷ 5 ∷ 8 ∷ []
+  -- a new cell holds the head too
+  pub held-again : selectBelow 14 (holds (after .tables) head) ≡ 9 ∷ 13 ∷ []
+  pub new-cell : sortedCorners (after .tables) 13 ≡ 1 ∷ 5 ∷ 8 ∷ 9 ∷ []

@@ -1,0 +1,2 @@
+-- A head parked on a face.
+pub mod Head
