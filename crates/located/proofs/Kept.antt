@@ -63,7 +63,7 @@ module _ {X Y Z pc cc np n : ℕ} {t : Tables} (M : IsMesh X Y Z pc cc np n t) {
     kept-holds q =
         all-cong 4 (λ i. leZ (pos 0) (side t′ q (4 * keptNumber s c + i))) (λ i. leZ (pos 0) (side t q (4 * c + i))) (λ i h. ap (leZ (pos 0)) (kept-side q i h))
 
-    pub kept-corners : sortedCorners t′ (keptNumber s c) ≡ sortedCorners t c
+    kept-corners : sortedCorners t′ (keptNumber s c) ≡ sortedCorners t c
     kept-corners = corners-cong t′ t (keptNumber s c) c (kept-corner F c c< k)
 
   -- ---- a new cell over the face f, where a kept cell c holds q
@@ -129,10 +129,14 @@ module _ {X Y Z pc cc np n : ℕ} {t : Tables} (M : IsMesh X Y Z pc cc np n t) {
           fails (lexBefore (sortedCorners t′ e) (sortedCorners t c)) (λ b. clash (before-below (made-corners g g< v) (sortedCorners t c) (ap (λ x. lexBefore (sortedCorners t′ x) (sortedCorners t c)) (sym a) ∙ b))
           (l .first (cellOf g) (cell< g g<) (old-holds g g< v q inside c (l .cell<) k (l .holding) (ap (holds t′ q) (sym a) ∙ h))))
 
-  pub holder-kept : (q : Position) → InBox X Y Z q → kept? s (firstHolder t n q) ≡ true → sortedCorners t′ (firstHolder t′ n′ q) ≡ sortedCorners t (firstHolder t n q)
+  -- with the number that the star gives it
+  pub holder-kept : (q : Position) → InBox X Y Z q → kept? s (firstHolder t n q) ≡ true → firstHolder t′ n′ q ≡ keptNumber s (firstHolder t n q)
   holder-kept q inside k =
       let f = holder-first M (F .room) q inside in
       let l = holder-leads t q n (firstHolder t n q) (f .cell<) (f .holding) in
-      ap (sortedCorners t′)
-      (first-once (keptNumber s (firstHolder t n q)) (firstHolder t′ n′ q) (first-kept q inside (firstHolder t n q) l k) (holder-first M′ (new-room F) q inside)) ∙
-      kept-corners (firstHolder t n q) (f .cell<) k
+      first-once (keptNumber s (firstHolder t n q)) (firstHolder t′ n′ q) (first-kept q inside (firstHolder t n q) l k) (holder-first M′ (new-room F) q inside)
+
+  pub same-corner : (q : Position) → InBox X Y Z q → kept? s (firstHolder t n q) ≡ true → (i : ℕ) → i < 4 →
+      corner t′ (firstHolder t′ n′ q) i ≡ corner t (firstHolder t n q) i
+  same-corner q inside k i h =
+      ap (λ c. corner t′ c i) (holder-kept q inside k) ∙ kept-corner F (firstHolder t n q) (holder-first M (F .room) q inside .cell<) k i h

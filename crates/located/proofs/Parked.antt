@@ -1,23 +1,28 @@
 -- The parked head: over one insertion of any kind, over a listed node, over every list of calls.
-use Prim.Native.Nat.{ℕ, zero, suc}
-use mathlib.Core.Bool.{Bool, true, false, _&&_, cond}
+use Prim.Native.Nat.{ℕ, zero, suc, _<_}
+use mathlib.Core.Bool.{Bool, true, false, not, _&&_, cond}
 use mathlib.Core.List.{List, [], _∷_}
+use mathlib.Core.Logic.{_⊎_, inl, inr}
 use mathlib.Core.Path.{_≡_, refl, sym, ap, _∙_, subst}
 use native.Mathlib.Decide.{ℕ-discrete}
 use native.Mathlib.Omega.{arith}
 use lib.Dec.{eqb}
-use Rattle.arith.proofs.Flags.{and-left, and-right}
+use Rattle.arith.proofs.Flags.{split, and-left, and-right}
 use Rattle.geometry.specs.declared.Position.{Position}
 use Rattle.geometry.specs.Volume.{inBox}
 use Rattle.geometry.proofs.Ranges.{box-in}
 use Rattle.mesh.specs.declared.Mesh.{Mesh}
-use Rattle.mesh.specs.Tables.{Tables, pointCapacity, cellCapacity}
+use Rattle.mesh.specs.Tables.{Tables, pointCapacity, cellCapacity, corner}
 use Rattle.mesh.specs.Check.{isMesh}
 use Rattle.mesh.specs.Refusal.{meshRefusal}
 use Rattle.mesh.proofs.Room.{room-of}
 use Rattle.mesh.proofs.Checked.{check-mesh}
 use Rattle.mesh.proofs.Verdict.{passed}
-use Rattle.locate.specs.Locate.{sortedCorners, firstHolder}
+use Rattle.locate.specs.declared.Located.the-variants.{Cell, Refused as NotLocated}
+use Rattle.locate.specs.Locate.{firstHolder, locateCall}
+use Rattle.locate.proofs.First.{corners-cong}
+use Rattle.locate.proofs.Finding.{refused, outside}
+use Rattle.cavity.specs.Cavity.{inSet}
 use Rattle.cavity.specs.Answers.{Answers, sphere, handed}
 use Rattle.star.proofs.Star.{Fits}
 use Rattle.insertion.specs.declared.Report.{Report}
@@ -29,21 +34,21 @@ use Rattle.insertion.proofs.Refusals.{node-fits, node-accepted, node-refused, c
 use Rattle.insertion.proofs.Growing.{inserted, checks-again}
 use Rattle.insertion.proofs.Steps.{list-refused, list-begins, node-in, node-out}
 use Rattle.calls.specs.Calls.{Build, Call, by-sphere, by-answers, by-list, recordAfter, recordAfterList, insertOutcome, listOutcome, outcome, meshAfter}
-use Rattle.located.specs.Parked.{outsideIf, outsideFrom, outsideCall, outsideCalls, StaysLocated}
-use Rattle.located.proofs.Theorem.{same-answer}
-use Rattle.located.proofs.Kept.{holder-kept}
+use Rattle.located.specs.Parked.{LocatedIn, outsideIf, outsideFrom, outsideCall, outsideCalls, StaysLocated}
+use Rattle.located.proofs.Theorem.{is-located, same-answer}
+use Rattle.located.proofs.Kept.{same-corner}
 
 -- one box, and q, where it is in it, in the same cell by its corners
 record Stays (q : Position) (m : Mesh) (t : Tables) (m′ : Mesh) (t′ : Tables) : Type 0 where
   box : inBox (m′ .x) (m′ .y) (m′ .z) q ≡ inBox (m .x) (m .y) (m .z) q
-  corners : inBox (m .x) (m .y) (m .z) q ≡ true → sortedCorners t′ (firstHolder t′ (m′ .cells) q) ≡ sortedCorners t (firstHolder t (m .cells) q)
+  corners : inBox (m .x) (m .y) (m .z) q ≡ true → (i : ℕ) → i < 4 → corner t′ (firstHolder t′ (m′ .cells) q) i ≡ corner t (firstHolder t (m .cells) q) i
 
 module _ (q : Position) where
   same : (m : Mesh) (t : Tables) → Stays q m t m t
-  same m t = record { box = refl; corners = λ b. refl }
+  same m t = record { box = refl; corners = λ b i h. refl }
 
   then : {m m′ m″ : Mesh} {t t′ t″ : Tables} → Stays q m t m′ t′ → Stays q m′ t′ m″ t″ → Stays q m t m″ t″
-  then s s′ = record { box = s′ .box ∙ s .box; corners = λ b. s′ .corners (s .box ∙ b) ∙ s .corners b }
+  then s s′ = record { box = s′ .box ∙ s .box; corners = λ b i h. s′ .corners (s .box ∙ b) i h ∙ s .corners b i h }
 
   -- ---- a node
 
@@ -56,7 +61,7 @@ module _ (q : Position) where
         let N = node-fits m t w p a z in
         let F : Fits (pointCapacity t) (cellCapacity t w) (m .points) (m .cells) t p (lastCavity m t p a) =
         record { room = room-of t w; next = omega (arith, M .points≤, N .next); cells = N .cells } in
-        record { box = refl; corners = λ b. holder-kept M F (inserted m t w w p a M N (omega arith) .mesh) q (box-in b) o }
+        record { box = refl; corners = λ b. same-corner M F (inserted m t w w p a M N (omega arith) .mesh) q (box-in b) o }
 
   -- ---- an insertion call
 
@@ -143,4 +148,41 @@ module _ (q : Position) where
 pub parked : (b : Build) (cs : List Call) (q : Position) → outsideCalls b cs q ≡ true → StaysLocated b (meshAfter b cs) q
 parked b cs q o w w′ z z′ =
     let s = all-calls q b cs o in
-    same-answer (b .mesh) (meshAfter b cs .mesh) (b .tables) (meshAfter b cs .tables) w w′ q z z′ (sym (s .box)) (s .corners)
+    let b′ = meshAfter b cs in
+    same-answer (b .mesh) (b′ .mesh) (b .tables) (b′ .tables) w w′ q z z′ (sym (s .box))
+    (λ e. corners-cong (b′ .tables) (b .tables) (firstHolder (b′ .tables) (b′ .mesh .cells) q) (firstHolder (b .tables) (b .mesh .cells) q) (s .corners e))
+
+-- a call that answers a cell: the position is in the box, and the cell is the definition's
+located-is : (m : Mesh) (t : Tables) (w : ℕ) (q : Position) (c : ℕ) → locateCall m t w q ≡ Cell c →
+    (inBox (m .x) (m .y) (m .z) q ≡ true) × (firstHolder t (m .cells) q ≡ c)
+located-is m t w q c f = go (ℕ-discrete (meshRefusal m t w false) 0) (split (inBox (m .x) (m .y) (m .z) q))
+  where
+    never : {k : ℕ} {A : Type 0} → NotLocated k ≡ locateCall m t w q → A
+    never {k} e = let g : NotLocated k ≡ Cell c = e ∙ f in let z : _≡_ {A = ℕ} 0 1 = cc in absurd (omega arith)
+
+    go : Dec (meshRefusal m t w false ≡ 0) → (inBox (m .x) (m .y) (m .z) q ≡ true) ⊎ (inBox (m .x) (m .y) (m .z) q ≡ false) →
+        (inBox (m .x) (m .y) (m .z) q ≡ true) × (firstHolder t (m .cells) q ≡ c)
+    go (no d) b = never (refused m t w q refl d)
+    go (yes z) (inr b) = never (outside m t w q z b)
+    go (yes z) (inl b) = (b, let g : Cell (firstHolder t (m .cells) q) ≡ Cell c = sym (is-located m t w q z b) ∙ f in cc)
+
+-- OF ONE ACCEPTED INSERTION, whatever the answers: each corner stands in its place
+pub parked-once : (m : Mesh) (t : Tables) (w : ℕ) (p : Position) (a : Answers) {m′ : Mesh} {r : Report} → insertCall m t w p a .answer ≡ Accepted m′ r →
+    (q : Position) (v c : ℕ) → locateCall m t v q ≡ Cell c → inSet (lastCavity m t p a) c ≡ false →
+    (v′ : ℕ) → meshRefusal m′ (insertCall m t w p a .tables) v′ false ≡ 0 → LocatedIn t c m′ (insertCall m t w p a .tables) v′ q
+unfolding outsideIf recordAfter
+parked-once m t w p a {m′} {r} e q v c f out v′ z = record {
+  cell = firstHolder t′ (m′ .cells) q;
+  located = is-located m′ t′ v′ q z (s .box ∙ l .0);
+  corners = λ i h. s .corners (l .0) i h ∙ ap (λ c. corner t c i) (l .1);
+}
+  where
+    t′ : Tables
+    t′ = insertCall m t w p a .tables
+
+    l : (inBox (m .x) (m .y) (m .z) q ≡ true) × (firstHolder t (m .cells) q ≡ c)
+    l = located-is m t v q c f
+
+    s : Stays q m t m′ t′
+    s = subst (λ x. Stays q m t (recordAfter m x) t′) e
+        (call-stays q m t w p a (ap (λ x. outsideIf x m t p a q) e ∙ (ap (λ c. not (inSet (lastCavity m t p a) c)) (l .1) ∙ ap not out)))

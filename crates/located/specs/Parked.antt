@@ -1,13 +1,14 @@
 -- 'A parked head': a position whose located cell is outside the corrected cavity of every node that goes in.
-use Prim.Native.Nat.{ℕ, zero, suc}
+use Prim.Native.Nat.{ℕ, zero, suc, _<_}
 use mathlib.Core.Bool.{Bool, true, false, not, _&&_, cond}
 use mathlib.Core.List.{List, [], _∷_}
 use mathlib.Core.Path.{_≡_}
 use lib.Dec.{eqb}
 use Rattle.geometry.specs.declared.Position.{Position}
 use Rattle.mesh.specs.declared.Mesh.{Mesh}
-use Rattle.mesh.specs.Tables.{Tables}
+use Rattle.mesh.specs.Tables.{Tables, corner}
 use Rattle.mesh.specs.Refusal.{meshRefusal}
+use Rattle.locate.specs.declared.Located.the-variants.{Cell}
 use Rattle.locate.specs.Locate.{firstHolder, locateCall}
 use Rattle.cavity.specs.Answers.{Answers, sphere, handed}
 use Rattle.cavity.specs.Cavity.{inSet}
@@ -17,6 +18,12 @@ use Rattle.insertion.specs.Insertion.{lastCavity, insertNode, insertCall}
 use Rattle.insertion.specs.List.{listedNode, listedCount}
 use Rattle.calls.specs.Calls.{Build, Call, by-sphere, by-answers, by-list, outcome}
 use Rattle.located.specs.Claim.{SameAnswer}
+
+-- q is located in a cell with the corners of cell c of t
+pub record LocatedIn (t : Tables) (c : ℕ) (m′ : Mesh) (t′ : Tables) (w : ℕ) (q : Position) : Type 0 where
+  pub cell : ℕ
+  pub located : locateCall m′ t′ w q ≡ Cell cell
+  pub corners : (i : ℕ) → i < 4 → corner t′ cell i ≡ corner t c i
 
 -- q's located cell is outside the corrected cavity of p, where p is accepted
 unfoldable pub outsideIf : Inserted → Mesh → Tables → Position → Answers → Position → Bool
