@@ -88,7 +88,7 @@ gantry_started gantry_start(uint32_t x, uint32_t y, uint32_t z, GANTRY_TABLES);
 /*
  * Inserts one node, by the float sphere test. The answer has the node's point number, how many cells its cavity had before and
  * after correction, how many cells were made, and the least T over the cavity before correction. Cell numbers change: a cell number
- * from an earlier call is of no use afterwards. Refusals 1 to 8.
+ * from an earlier call is of no use afterwards. Point numbers stay, so a cell can be kept by its four corners. Refusals 1 to 8.
  */
 gantry_inserted gantry_insert(gantry_mesh mesh, GANTRY_TABLES, uint32_t x, uint32_t y, uint32_t z);
 
@@ -103,7 +103,13 @@ gantry_inserted gantry_insert_answers(gantry_mesh mesh, GANTRY_TABLES,
  */
 gantry_listed gantry_insert_list(gantry_mesh mesh, GANTRY_TABLES, const uint32_t *nodes, size_t nodes_len);
 
-/* The lowest-numbered cell that holds a position, its faces, edges and corners included. Writes the work area alone. Refusals 1 2 3 4 7. */
+/*
+ * Of the cells that hold a position, their faces, edges and corners included, the one whose four corner numbers, sorted upward, come
+ * first in order: of two cells the one with the lower number where they first differ. No two cells have the same four, so in which
+ * order the tables have the cells does not matter. After an insertion that does not replace the located cell, the position is located
+ * in it again, by its four corners; its number may have changed, and new cells may hold the position too. That is proved in
+ * crates/located. Writes the work area alone. Refusals 1 2 3 4 7.
+ */
 gantry_located gantry_locate(gantry_mesh mesh, GANTRY_TABLES, uint32_t x, uint32_t y, uint32_t z);
 
 /*

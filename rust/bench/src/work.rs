@@ -4,6 +4,7 @@ use std::ops::Range;
 
 use compare::call::Answer;
 use compare::Builder;
+use plain::loaded::Loaded;
 use plain::nodefile::encode;
 use plain::random::Random;
 use plain::{Mesh, Owned, Position, NODE_LIMIT};
@@ -34,7 +35,7 @@ const fn entry(
 }
 
 #[rustfmt::skip]
-pub const ENTRIES: [Entry; 21] = [
+pub const ENTRIES: [Entry; 23] = [
     entry("random", "620 random nodes", Some(2.0), || list(nodes::random(620))),
     entry("lattice", "lattice 9×9×9", Some(2.0), || list(nodes::lattice(9))),
     entry("walls", "1,016 nodes on walls", Some(2.0), || list(nodes::walls())),
@@ -43,7 +44,9 @@ pub const ENTRIES: [Entry; 21] = [
     entry("random-200", "first 200 random nodes", Some(2.0), || list(nodes::random(200))),
     entry("random-400", "first 400 random nodes", Some(2.0), || list(nodes::random(400))),
     entry("check", "mesh check", Some(2.0), || call(Kind::Check)),
-    entry("locate", "locate", Some(2.0), || call(Kind::Locate(positions()))),
+    entry("locate", "locate", Some(2.0), || locate(anywhere)),
+    entry("locate-0", "locate inside cell 0", Some(2.0), || locate(inside_cell_0)),
+    entry("locate-point", "locate at the point of most cells", Some(2.0), || locate(at_a_point)),
     entry("read", "read a node file", None, || call(Kind::Read)),
     entry("write", "write a node file", None, || call(Kind::Write)),
     entry("merge-random", "merge 508 and 508 random nodes", None, || merge(nodes::random(1_016), &HALVES)),
@@ -139,10 +142,7 @@ fn call(kind: Kind) -> Work {
     let mesh = tuned::insert_list(mesh, &mut tables.lend(), nodes.as_flattened()).mesh;
     Work {
         unit: "call",
-        units: match &kind {
-            Kind::Locate(positions) => positions.len(),
-            _ => 1,
-        },
+        units: 1,
         passes: 20,
         kind,
         refusal: 0,
@@ -168,10 +168,31 @@ fn merge(Set { sides, nodes }: Set, files: &Files) -> Work {
     }
 }
 
-fn positions() -> Vec<Position> {
+fn locate(positions: fn(&Loaded) -> Vec<Position>) -> Work {
+    let mut work = call(Kind::Locate(vec![]));
+    let positions = positions(&Loaded::load(work.mesh, &work.tables.lend()));
+    work.units = positions.len();
+    work.kind = Kind::Locate(positions);
+    work
+}
+
+fn anywhere(_mesh: &Loaded) -> Vec<Position> {
     let mut random = Random::new(4);
     let mut position = || [0; 3].map(|_| random.below(131_073) as u32);
     (0..20).map(|_| position()).collect()
+}
+
+fn inside_cell_0(mesh: &Loaded) -> Vec<Position> {
+    let corners = mesh.positions(0);
+    let middle = |axis: usize| corners.iter().map(|corner| corner[axis]).sum::<u32>() / 4;
+    vec![[0, 1, 2].map(middle)]
+}
+
+fn at_a_point(mesh: &Loaded) -> Vec<Position> {
+    let corners = || mesh.cells.iter().flat_map(|cell| cell.corners);
+    let cells = |point: usize| corners().filter(|&corner| corner as usize == point).count();
+    let most = (0..mesh.points.len()).max_by_key(|&point| cells(point));
+    most.map(|point| mesh.points[point]).into_iter().collect()
 }
 
 impl Work {

@@ -35,6 +35,11 @@ impl Grid {
         volume6(corners).expect("points in the box")
     }
 
+    /// Faces, edges and corners included.
+    pub fn holds(&self, cell: &Cell, p: Position) -> bool {
+        (0..4).all(|place| self.volume6(cell, Some((place, p))) >= 0)
+    }
+
     /// Six times the box's volume.
     pub fn box_volume6(&self) -> i64 {
         6 * self.sides.map(i64::from).iter().product::<i64>()

@@ -325,6 +325,30 @@ const SWAPPED: &str = "box 4 4 4 points 8 cells 6
 5 0 1 3 7 - 0 4 -
 ";
 
+/// The first of the cells that the command names is the one that the archive answers.
+#[test]
+fn the_located_cell_is_the_first_named() {
+    let place = Place::new("holding");
+    place.put("a", "4 4 4\n1 2 3\n2 2 0\n");
+    let positions = (0..125).map(|k| format!(" {} {} {}", k % 5, k / 5 % 5, k / 25));
+    let line = format!("locate a{}", positions.collect::<String>());
+    let text = place.run(&line, b"").done();
+    let blocks: Vec<&str> = text.split("position ").skip(1).collect();
+    assert_eq!(blocks.len(), 125);
+    let mut several = 0;
+    for block in blocks {
+        let mut lines = block.lines();
+        let (_, cell) = lines.next().unwrap().split_once(": cell ").unwrap();
+        let (cell, _) = cell.split_once(',').unwrap();
+        if let Some((_, named)) = lines.next().unwrap().split_once("their corners: ") {
+            assert!(named.starts_with(&format!("{cell} (")), "{block}");
+            several += 1;
+        }
+    }
+    // The others lie inside a cell, or on a wall in one.
+    assert_eq!(several, 72);
+}
+
 #[test]
 fn positions_volumes_spheres() {
     let place = Place::new("queries");
@@ -332,11 +356,12 @@ fn positions_volumes_spheres() {
     let located = place.run("locate a 1 2 3 2 2 1", b"").done();
     assert_eq!(
         located,
-        "position 1 2 3: cell 0, six-fold volume 48
-  corner 0: point 8 at 1 2 3, volume 48, share 1.0000
+        "position 1 2 3: cell 1, six-fold volume 48
+  held by 12 cells, in the order of their corners: 1 (0 1 3 8), 11 (0 1 5 8), 3 (0 2 3 8), 5 (0 2 6 8), 9 (0 4 5 8), 7 (0 4 6 8) and 6 more
+  corner 0: point 0 at 0 0 0, volume 0, share 0.0000
   corner 1: point 1 at 4 0 0, volume 0, share 0.0000
   corner 2: point 3 at 4 4 0, volume 0, share 0.0000
-  corner 3: point 7 at 4 4 4, volume 0, share 0.0000
+  corner 3: point 8 at 1 2 3, volume 48, share 1.0000
 position 2 2 1: cell 1, six-fold volume 48
   corner 0: point 0 at 0 0 0, volume 12, share 0.2500
   corner 1: point 1 at 4 0 0, volume 4, share 0.0833
@@ -354,7 +379,7 @@ gantry: position 0 -1 0: refused 4 (outside): the box is 4 4 4
 "
         )
     );
-    assert!(outside.output.starts_with(b"position 1 2 3: cell 0"));
+    assert!(outside.output.starts_with(b"position 1 2 3: cell 1"));
     let four = "0 0 0 4 0 0 4 4 0 4 4 4";
     assert_eq!(place.run(&format!("volume {four}"), b"").done(), "64\n");
     let far = place.run("volume 0 0 0 4 0 0 4 4 0 4 4 131073", b"");

@@ -21,6 +21,8 @@ pub struct History {
     spread: Spread,
     mesh: Mesh,
     tables: Owned,
+    /// Where a position was located last.
+    parked: Option<Position>,
     calls_left: u64,
     is_begun: bool,
 }
@@ -37,6 +39,7 @@ impl History {
             spread: nodes::spread(random),
             mesh: Mesh::default(),
             tables,
+            parked: None,
             calls_left: 5 + random.below(40),
             is_begun: false,
         }
@@ -87,6 +90,9 @@ impl History {
             self.mesh = mesh;
             self.sides = mesh.sides();
         }
+        if let Call::Locate(p) = step.call {
+            self.parked = Some(p);
+        }
     }
 
     fn call(&self, random: &mut Random) -> Call {
@@ -99,9 +105,9 @@ impl History {
             6..8 => self.write(random),
             8..10 => Call::Merge(merges::merge(random)),
             10..12 => Call::Check,
-            12..15 => Call::Locate(p),
-            15..19 => self.list(random),
-            19..28 => Call::Insert(p),
+            12..16 => Call::Locate(self.located(random)),
+            16..20 => self.list(random),
+            20..28 => Call::Insert(p),
             _ => Call::InsertAnswers(nodes::answers(random, self.mesh.cells as usize), p),
         }
     }
@@ -110,6 +116,24 @@ impl History {
         let used = 3 * self.mesh.points as usize;
         let points = &self.tables.points[..used.min(self.tables.points.len())];
         nodes::node(random, self.sides, self.spread, points)
+    }
+
+    /// Anywhere, at a place of some cell, or where the last one was, with insertions between.
+    fn located(&self, random: &mut Random) -> Position {
+        match (random.below(6), self.parked, self.cell(random)) {
+            (0, _, _) | (_, _, None) => self.node(random),
+            (1 | 2, Some(p), _) => p,
+            (_, _, Some(corners)) => nodes::in_cell(random, corners),
+        }
+    }
+
+    /// Where the corners of some cell are, if there is one.
+    fn cell(&self, random: &mut Random) -> Option<[Position; 4]> {
+        let (points, _) = self.tables.points.as_chunks();
+        let (cells, _) = self.tables.corners.as_chunks::<4>();
+        let count = self.mesh.cells as usize;
+        let cell = cells[..count].get(random.index(count))?;
+        Some(cell.map(|point| points[point as usize]))
     }
 
     /// Any length, with up to two surplus numbers; long where the tables are.
@@ -299,7 +323,7 @@ fn fold(mesh: &mut Mesh, tables: &mut Owned) {
 }
 
 /// Leaves a mesh a mesh that no history of insertions gives: a cell's places turned, or two cells' numbers swapped.
-fn rearrange(random: &mut Random, mesh: Mesh, tables: &mut Owned) {
+pub fn rearrange(random: &mut Random, mesh: Mesh, tables: &mut Owned) {
     let cells = mesh.cells as usize;
     let (a, b) = (random.index(cells), random.index(cells));
     if random.one_in(2) {

@@ -120,6 +120,27 @@ pub fn node(random: &mut Random, sides: Position, spread: Spread, points: &[u32]
     p
 }
 
+/// At a corner of a cell, or a mean of some of its corners, rounded down: where there is nothing to round, it lies on an edge, on
+/// a face or inside.
+pub fn in_cell(random: &mut Random, mut corners: [Position; 4]) -> Position {
+    corners.rotate_left(random.index(4));
+    let weights = random.pick(&[
+        [1, 0, 0, 0],
+        [1, 1, 0, 0],
+        [3, 1, 0, 0],
+        [1, 2, 1, 0],
+        [1, 1, 1, 1],
+    ]);
+    let sum: u64 = weights.iter().sum();
+    [0, 1, 2].map(|axis| {
+        let terms = weights.iter().zip(corners);
+        let total: u64 = terms
+            .map(|(weight, corner)| weight * corner[axis] as u64)
+            .sum();
+        (total / sum) as u32
+    })
+}
+
 /// A list that is to fill the tables: all inside the box, so that cells run out, or all on walls, so that points do.
 pub fn filling(random: &mut Random, sides: Position, count: usize) -> Vec<u32> {
     let is_on_walls = random.one_in(2);

@@ -22,6 +22,8 @@ pub enum Line {
     Sphere(Position),
     /// `answers 110101 1 2 3`, with a digit a cell, 0 for no.
     Answers(Vec<u8>, Position),
+    /// `locate 1 2 3`
+    Locate(Position),
     /// `check`
     Check,
     /// `merge 1 2 3 2 2 2 and 1 2 3`: two files of the box, with these nodes.
@@ -93,13 +95,16 @@ fn line(text: &str, room: u16) -> Result<Line, String> {
     match words[..] {
         ["sphere", ref node @ ..] => Ok(Line::Sphere(position(node)?)),
         ["answers", bytes, ref node @ ..] => Ok(Line::Answers(digits(bytes)?, position(node)?)),
+        ["locate", ref position @ ..] => Ok(Line::Locate(self::position(position)?)),
         ["check"] => Ok(Line::Check),
         ["merge", ref files @ ..] => merge(files),
         ["cell", ref entries @ ..] => match cell(entries)? {
             Line::Cell(place, _) if place >= room => Err(format!("no room for a cell {place}")),
             cell => Ok(cell),
         },
-        _ => Err("not a line of 'sphere', 'answers', 'check', 'merge' or 'cell'".to_string()),
+        _ => Err(
+            "not a line of 'sphere', 'answers', 'locate', 'check', 'merge' or 'cell'".to_string(),
+        ),
     }
 }
 
@@ -117,6 +122,18 @@ fn said(answer: Inserted) -> String {
         0 => format!("point {point} before {before} after {after} made {made} least {least}\n"),
         number => format!("refused {number}\n"),
     }
+}
+
+/// The located cell with its corners, sorted upward, or the refusal.
+fn located(build: &dyn Builder, mesh: Mesh, tables: &mut Owned, p: Position) -> String {
+    let answer = build.locate(mesh, &mut tables.lend(), p);
+    if answer.refusal != 0 {
+        return format!("refused {}\n", answer.refusal);
+    }
+    let mut corners = tables.corners.as_chunks().0[answer.cell as usize];
+    corners.sort();
+    let [a, b, c, d] = corners;
+    format!("cell {} corners {a} {b} {c} {d}\n", answer.cell)
 }
 
 /// The nodes of the merged file, or the refusal.
@@ -171,6 +188,7 @@ impl Line {
         let (answers, node) = match self {
             Line::Sphere(node) => (Answers::Float, *node),
             Line::Answers(bytes, node) => (Answers::Given(bytes), *node),
+            Line::Locate(p) => return located(build, *mesh, tables, *p),
             Line::Check => {
                 let is_mesh = build.check(*mesh, &mut tables.lend());
                 return format!("check {}\n", if is_mesh { "yes" } else { "no" });

@@ -6,10 +6,14 @@ use std::fmt::Write;
 use compare::{named, Script};
 
 /// The table holds histories of six wrong corrections; these builds are not among them.
-const NOT_IN_THE_TABLE: [&str; 5] = [
+const NOT_IN_THE_TABLE: [&str; 9] = [
     "coplanar-starred",
     "base-removed",
     "far-side-left-out",
+    "lowest-numbered",
+    "corners-unsorted",
+    "greatest-first",
+    "last-in-order",
     "second-first",
     "across-files-only",
 ];
@@ -125,6 +129,7 @@ fn a_bad_line_is_named() {
     assert_eq!(after("sphere 1 2 3\nsphere 1 2 x"), "line 3: x: no number");
     assert_eq!(after("answers 12 1 2 3"), "line 2: 12: not 0s and 1s");
     assert!(after("insert 1 2 3").starts_with("line 2: not a line of 'sphere'"));
+    assert_eq!(after("locate 1 2"), "line 2: not three numbers");
     assert_eq!(after("merge 1 2 3 and 1 2"), "line 2: not three numbers");
     assert_eq!(
         after("merge 1 2 3"),

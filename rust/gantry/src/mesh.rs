@@ -205,8 +205,8 @@ impl Mesh {
         }
     }
 
-    /// The lowest-numbered cell that holds the position, its faces, edges and corners included: every position of the
-    /// box is held by one. Refused with [`Refusal::Outside`].
+    /// Of the cells that hold the position, their faces, edges and corners included, the one whose four corner numbers,
+    /// sorted upward, come first in order. Every position of the box is held by one. Refused with [`Refusal::Outside`].
     ///
     /// ```
     /// use gantry::{Mesh, Refusal};
@@ -215,6 +215,24 @@ impl Mesh {
     /// assert_eq!(mesh.locate([1, 2, 3]), Ok(3));
     /// assert_eq!(mesh.locate([1, 2, 5]), Err(Refusal::Outside));
     /// # Ok::<(), Refusal>(())
+    /// ```
+    ///
+    /// An insertion changes the numbers of cells. If it does not replace the located cell, the position is located in that
+    /// cell again, by its corners, though new cells may hold it too:
+    ///
+    /// ```
+    /// use gantry::Mesh;
+    ///
+    /// let mut mesh = Mesh::start(4, 4, 4)?;
+    /// mesh.insert([2, 2, 2])?;
+    /// // On a face that cells 10 and 11 share.
+    /// let parked = [3, 1, 2];
+    /// assert_eq!(mesh.locate(parked), Ok(11));
+    /// let corners = mesh.cell(11).unwrap().corners;
+    /// mesh.insert([4, 2, 2])?;
+    /// assert_eq!(mesh.locate(parked), Ok(9));
+    /// assert_eq!(mesh.cell(9).unwrap().corners, corners);
+    /// # Ok::<(), gantry::Refusal>(())
     /// ```
     pub fn locate(&mut self, p: Position) -> Result<usize, Refusal> {
         let (record, mut tables) = self.lend();

@@ -263,7 +263,8 @@ pub fn insert_list(mesh: Record, tables: &mut Tables, nodes: &[u32]) -> Listed {
     call!(gantry_insert_list(mesh; tables; nodes.as_ptr(), nodes.len()))
 }
 
-/// `gantry_locate`: the lowest-numbered cell that holds a position. Refusals 1 2 3 4 7.
+/// `gantry_locate`: of the cells that hold a position, the one whose four corner numbers, sorted upward, come first in order.
+/// Refusals 1 2 3 4 7.
 pub fn locate(mesh: Record, tables: &mut Tables, [x, y, z]: Position) -> Located {
     call!(gantry_locate(mesh; tables; x, y, z))
 }

@@ -58,7 +58,7 @@ fn started(sides: Position, tables: &mut Tables) -> Started {
     Started { refusal: 0, mesh }
 }
 
-/// The lowest-numbered cell that holds the position.
+/// "Among the cells that hold the position, the one whose four corner numbers, sorted upward, come first in order."
 pub fn locate(mesh: Mesh, tables: &mut Tables, p: Position) -> Located {
     locate_with(&RightRules, mesh, tables, p)
 }
@@ -79,7 +79,8 @@ fn located(rules: &dyn Rules, mesh: Mesh, tables: &Tables, p: Position) -> Locat
         return refused(4);
     }
     let loaded = Loaded::load(mesh, tables);
-    match (0..loaded.cells.len()).find(|&c| loaded.holds(c, p)) {
+    let order = |&c: &usize| rules.order(c, loaded.cells[c].corners);
+    match loaded.holding(p).into_iter().min_by_key(order) {
         Some(c) => Located {
             refusal: 0,
             cell: c as u32,

@@ -66,6 +66,13 @@ impl Loaded {
         (0..4).all(|i| self.side(c, i, p) >= 0)
     }
 
+    /// The cells that hold a position, by number.
+    pub fn holding(&self, p: Position) -> Vec<usize> {
+        (0..self.cells.len())
+            .filter(|&c| self.holds(c, p))
+            .collect()
+    }
+
     /// The cell across face i.
     pub fn across(&self, c: usize, i: usize) -> Option<usize> {
         let neighbour = self.cells[c].neighbours[i];

@@ -50,6 +50,13 @@ pub trait Rules {
         side < 0
     }
 
+    /// Of locating: "the one whose four corner numbers, sorted upward, come first in order". The cell with the least of
+    /// these is located, compared from the first number on.
+    fn order(&self, _cell: usize, mut corners: [u16; 4]) -> [u16; 4] {
+        corners.sort();
+        corners
+    }
+
     /// Of two files: "the first file's nodes in order, then the second's".
     fn surveyed(&self, first: &[Position], second: &[Position]) -> Vec<Position> {
         [first, second].concat()

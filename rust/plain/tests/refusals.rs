@@ -189,12 +189,12 @@ fn more_than_1024_points_and_4096_cells_are_not_used() {
 fn locate_and_write() {
     let mut kit = Kit::box4();
     let located = |kit: &mut Kit, p| plain::locate(kit.mesh, &mut kit.tables.lend(), p);
-    let lowest = Located {
+    let first = Located {
         refusal: 0,
         cell: 0,
     };
-    assert_eq!(located(&mut kit, [0, 0, 0]), lowest);
-    assert_eq!(located(&mut kit, [4, 4, 4]), lowest);
+    assert_eq!(located(&mut kit, [0, 0, 0]), first);
+    assert_eq!(located(&mut kit, [4, 4, 4]), first);
     let refused = Located {
         refusal: 4,
         cell: 0,

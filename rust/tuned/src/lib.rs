@@ -8,6 +8,7 @@ mod cavity;
 mod check;
 mod geometry;
 mod insertion;
+mod locate;
 mod nodefile;
 mod side_codes;
 mod star;
@@ -15,34 +16,9 @@ mod star;
 pub use check::check;
 pub use geometry::{sphere_test, volume6};
 pub use insertion::{insert, insert_answers, insert_list};
+pub use locate::locate;
 pub use nodefile::{merge, write_nodes};
 pub use plain::{read_nodes, start};
 pub use plain::{
     Inserted, Listed, Located, Mesh, Owned, Position, Read, Sphere, Started, Tables, Written,
 };
-
-use plain::in_box;
-use side_codes::SideCodes;
-
-/// The lowest-numbered cell that holds the position.
-pub fn locate(mesh: Mesh, tables: &mut Tables, p: Position) -> Located {
-    tables.work.fill(0);
-    let refused = |refusal| Located { refusal, cell: 0 };
-    let refusal = check::mesh_refusal(mesh, tables, usize::MAX);
-    if refusal != 0 {
-        return refused(refusal);
-    }
-    if !in_box(mesh.sides(), p) {
-        return refused(4);
-    }
-    let (points, corners, _) = check::used(mesh, tables);
-    let mut codes = SideCodes::new();
-    codes.set(points, p);
-    match (0..corners.len()).find(|&c| codes.cell_holds(points, corners[c], p)) {
-        Some(c) => Located {
-            refusal: 0,
-            cell: c as u32,
-        },
-        None => refused(7),
-    }
-}

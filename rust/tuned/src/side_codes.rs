@@ -24,14 +24,14 @@ impl SideCodes {
     }
 
     #[inline]
-    fn may_hold(&self, cell: [u16; 4]) -> bool {
-        let [a, b, c, d] = cell.map(|point| self.0[point as usize % POINT_LIMIT]);
-        a & b & c & d == 0
+    pub fn may_hold(&self, cell: &[u16; 4]) -> bool {
+        let code = |i: usize| self.0[cell[i] as usize % POINT_LIMIT];
+        code(0) & code(1) & code(2) & code(3) == 0
     }
 
     #[inline]
     pub fn cell_holds(&self, points: &[Position], cell: [u16; 4], p: Position) -> bool {
-        self.may_hold(cell) && {
+        self.may_hold(&cell) && {
             let v = sides(cell.map(|point| offset(points[point as usize], p)));
             v.iter().all(|&side| side >= 0)
         }

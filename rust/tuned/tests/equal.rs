@@ -113,6 +113,10 @@ fn a_lattice_that_fills_the_tables() {
         .collect();
     pair.insert_list(lattice.as_flattened());
     assert!(pair.mesh.cells > 1_000);
+    // At points with many cells, most of them with numbers of more than eight bits.
+    for &p in lattice.iter().step_by(5) {
+        pair.locate(p);
+    }
 }
 
 #[test]

@@ -2,7 +2,7 @@
 //! five of document 01's list "Known wrong builds" come first, under its words.
 
 use plain::cavity::{Candidate, Cavity, Face};
-use plain::{Position, Rules};
+use plain::{Position, RightRules, Rules};
 
 #[derive(Clone, Copy)]
 pub struct Build {
@@ -10,7 +10,7 @@ pub struct Build {
     pub rules: &'static dyn Rules,
 }
 
-pub const ALL: [Build; 11] = [
+pub const ALL: [Build; 15] = [
     build("zero-visible", &ZeroVisible),
     build("coplanar-starred", &CoplanarStarred),
     build("base-removed", &BaseRemoved),
@@ -20,6 +20,10 @@ pub const ALL: [Build; 11] = [
     build("coplanar-keeps", &CoplanarKeeps),
     build("one-round", &OneRound),
     build("one-at-a-time", &OneAtATime),
+    build("lowest-numbered", &LowestNumbered),
+    build("corners-unsorted", &CornersUnsorted),
+    build("greatest-first", &GreatestFirst),
+    build("last-in-order", &LastInOrder),
     build("second-first", &SecondFirst),
     build("across-files-only", &AcrossFilesOnly),
 ];
@@ -117,6 +121,45 @@ impl Rules for OneAtATime {
             }
         }
         removed
+    }
+}
+
+/// The lowest-numbered of the cells that hold a position is located: document 01's rule, which document 02 replaces.
+pub struct LowestNumbered;
+
+impl Rules for LowestNumbered {
+    fn order(&self, cell: usize, _corners: [u16; 4]) -> [u16; 4] {
+        [cell as u16, 0, 0, 0]
+    }
+}
+
+/// The corner numbers are compared in the order in which the cell has them.
+pub struct CornersUnsorted;
+
+impl Rules for CornersUnsorted {
+    fn order(&self, _cell: usize, corners: [u16; 4]) -> [u16; 4] {
+        corners
+    }
+}
+
+/// The corner numbers are compared from the greatest down.
+pub struct GreatestFirst;
+
+impl Rules for GreatestFirst {
+    fn order(&self, cell: usize, corners: [u16; 4]) -> [u16; 4] {
+        let [a, b, c, d] = RightRules.order(cell, corners);
+        [d, c, b, a]
+    }
+}
+
+/// The cell that comes last in order is located.
+pub struct LastInOrder;
+
+impl Rules for LastInOrder {
+    fn order(&self, cell: usize, corners: [u16; 4]) -> [u16; 4] {
+        RightRules
+            .order(cell, corners)
+            .map(|point| u16::MAX - point)
     }
 }
 

@@ -1,12 +1,14 @@
-//! What each wrong build does to a mesh, or to a merged file: for the five known ones, the symptom that document 01 names.
+//! What each wrong build does to a mesh, a located position or a merged file: for the five known ones, the symptom that
+//! document 01 names.
 
 use plain::loaded::Loaded;
 use plain::nodefile::encode;
 use plain::random::Random;
 use plain::{Answers, Mesh, Owned, Position, RightRules, Rules};
 use wrong::{
-    AcrossFilesOnly, BaseRemoved, CoplanarKeeps, CoplanarStarred, FarSideLeftOut, LostCornersOnly,
-    OneAtATime, OneRound, SecondFirst, VisibilityOnly, ZeroVisible,
+    AcrossFilesOnly, BaseRemoved, CoplanarKeeps, CoplanarStarred, CornersUnsorted, FarSideLeftOut,
+    GreatestFirst, LastInOrder, LostCornersOnly, LowestNumbered, OneAtATime, OneRound, SecondFirst,
+    VisibilityOnly, ZeroVisible,
 };
 
 #[derive(Clone, Debug, PartialEq, Eq)]
@@ -38,6 +40,16 @@ impl Kit {
         kit
     }
 
+    /// The box 4, 4, 4 with these nodes put in by the sphere test.
+    fn measured(nodes: &[Position]) -> Kit {
+        let mut kit = Kit::started([4; 3]);
+        let mut tables = kit.tables.lend();
+        let listed = plain::insert_list(kit.mesh, &mut tables, nodes.as_flattened());
+        assert_eq!(listed.refusal, 0);
+        kit.mesh = listed.mesh;
+        kit
+    }
+
     fn is_mesh(&mut self) -> bool {
         plain::check(self.mesh, &mut self.tables.lend())
     }
@@ -49,6 +61,40 @@ impl Kit {
 
     fn has_corner(&self, point: u16) -> bool {
         self.tables.corners[..4 * self.mesh.cells as usize].contains(&point)
+    }
+
+    /// The cell in which a build locates a position, and its corners, sorted upward.
+    fn located(&mut self, rules: &dyn Rules, p: Position) -> (u32, [u16; 4]) {
+        let answer = plain::locate_with(rules, self.mesh, &mut self.tables.lend(), p);
+        assert_eq!(answer.refusal, 0);
+        let mut corners = self.tables.corners.as_chunks().0[answer.cell as usize];
+        corners.sort();
+        (answer.cell, corners)
+    }
+
+    /// The same cells, two of them with each other's number.
+    fn swapped(&self, a: u16, b: u16) -> Kit {
+        let mut kit = self.clone();
+        for table in [&mut kit.tables.corners, &mut kit.tables.neighbours] {
+            table.as_chunks_mut::<4>().0.swap(a.into(), b.into());
+        }
+        for entry in &mut kit.tables.neighbours[..4 * self.mesh.cells as usize] {
+            *entry = match *entry {
+                c if c == a => b,
+                c if c == b => a,
+                c => c,
+            };
+        }
+        kit
+    }
+
+    /// The same cells, the last three places of one of them turned.
+    fn turned(&self, c: usize) -> Kit {
+        let mut kit = self.clone();
+        for table in [&mut kit.tables.corners, &mut kit.tables.neighbours] {
+            table[4 * c + 1..4 * c + 4].rotate_left(1);
+        }
+        kit
     }
 }
 
@@ -150,6 +196,69 @@ fn one_at_a_time_makes_another_mesh() {
     let mut kit = wrongly(&OneAtATime, &nodes);
     assert!(kit.is_mesh());
     assert_ne!(kit, Kit::with(&RightRules, &nodes));
+}
+
+/// Where a build locates a head that is parked in the face of points 1, 5 and 8, the middle of the box, before and after a
+/// node goes in at the middle of a wall.
+fn parked(rules: &dyn Rules, wall: Position) -> [(u32, [u16; 4]); 2] {
+    let before = Kit::measured(&[[2, 2, 2]]);
+    let after = Kit::measured(&[[2, 2, 2], wall]);
+    [before, after].map(|mut kit| kit.located(rules, [3, 1, 2]))
+}
+
+/// README's example. The node takes the place of the cell with the corners 1, 5, 7 and 8.
+#[test]
+fn lowest_numbered_moves_a_parked_head() {
+    let [right, wrong] =
+        [&RightRules as &dyn Rules, &LowestNumbered].map(|rules| parked(rules, [4, 2, 2]));
+    assert_eq!(right, [(11, [0, 1, 5, 8]), (9, [0, 1, 5, 8])]);
+    assert_eq!(wrong, [(10, [1, 5, 7, 8]), (9, [0, 1, 5, 8])]);
+    let readme = include_str!("../../../README.md");
+    for (rule, located) in [
+        ("the corners", right),
+        ("the lowest number, up to 0.3.0", wrong),
+    ] {
+        let [before, after] =
+            located.map(|(cell, [a, b, c, d])| format!("cell {cell}, corners {a} {b} {c} {d}"));
+        let row = format!("\n| {rule} | {before} | {after} |\n");
+        assert!(readme.contains(&row), "{row}");
+    }
+}
+
+/// The node takes the place of the other cell; a new one has the face then, and comes last.
+#[test]
+fn last_in_order_moves_a_head_whose_cell_stays() {
+    let [before, after] = parked(&LastInOrder, [2, 0, 2]);
+    assert_eq!((before.1, after.1), ([1, 5, 7, 8], [1, 5, 8, 9]));
+    // The cell is still there: by the right rule it is even located now.
+    let [_, right] = parked(&RightRules, [2, 0, 2]);
+    assert_eq!(right.1, before.1);
+}
+
+#[test]
+fn lowest_numbered_and_corners_unsorted_go_by_the_tables() {
+    let kit = Kit::started([4; 3]);
+    let (swapped, turned) = (kit.swapped(4, 5), kit.turned(5));
+    // In the face that cells 4 and 5 share.
+    let corners = |rules: &dyn Rules, kit: &Kit| kit.clone().located(rules, [2, 1, 2]).1;
+    for kit in [&kit, &swapped, &turned] {
+        assert!(kit.clone().is_mesh());
+        assert_eq!(corners(&RightRules, kit), [0, 1, 5, 7]);
+    }
+    let builds: [(&dyn Rules, &Kit); 2] =
+        [(&LowestNumbered, &swapped), (&CornersUnsorted, &turned)];
+    for (rules, other) in builds {
+        assert_eq!(corners(rules, &kit), [0, 4, 5, 7]);
+        assert_eq!(corners(rules, other), [0, 1, 5, 7]);
+    }
+}
+
+#[test]
+fn greatest_first_locates_another_cell_on_an_edge() {
+    let mut kit = Kit::measured(&[[2, 2, 2], [2, 1, 0]]);
+    let p = [0, 0, 2];
+    assert_eq!(kit.located(&RightRules, p).1, [0, 4, 5, 9]);
+    assert_eq!(kit.located(&GreatestFirst, p).1, [0, 4, 6, 8]);
 }
 
 /// What a build makes of two files in the box 4, 4, 4.

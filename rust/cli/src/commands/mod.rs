@@ -82,8 +82,9 @@ makes of FILE's nodes. Status 1 where something does not hold.",
         name: "locate",
         words: "FILE x y z",
         summary: "the cell that holds a position, and each corner's share in it",
-        help: "Several positions may be given, three numbers each. A corner's volume is that of the
-cell with this corner moved to the position; its share is that volume over the cell's.",
+        help: "Several positions may be given, three numbers each. Of several cells that hold one, the cell
+whose corner numbers, sorted upward, come first in order is given. A corner's volume is that
+of the cell with this corner moved to the position; its share is that volume over the cell's.",
         choices: OF_FILE,
         run: queries::locate,
     },

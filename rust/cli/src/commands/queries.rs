@@ -55,12 +55,41 @@ fn to_position(numbers: [i64; 3]) -> Result<Position, Refusal> {
     Ok(position)
 }
 
+/// So many of the cells that hold a position are named.
+const HOLDING_TOLD: usize = 6;
+
+/// A line with the cells that hold p, where there are several, in the order of which locate takes the first. It is worked out
+/// here, to explain the answer.
+fn holding(grid: &Grid, p: Position) -> String {
+    let mut holding = vec![];
+    for (number, cell) in grid.cells.iter().enumerate() {
+        if grid.holds(cell, p) {
+            let mut corners = cell.corners;
+            corners.sort_unstable();
+            holding.push((corners, number));
+        }
+    }
+    holding.sort_unstable();
+    let named = holding.iter().take(HOLDING_TOLD);
+    let named = named.map(|([a, b, c, d], number)| format!("{number} ({a} {b} {c} {d})"));
+    let named = Vec::from_iter(named).join(", ");
+    let more = match holding.len().saturating_sub(HOLDING_TOLD) {
+        0 => String::new(),
+        more => format!(" and {more} more"),
+    };
+    match holding.len() {
+        ..2 => String::new(),
+        count => format!("  held by {count} cells, in the order of their corners: {named}{more}\n"),
+    }
+}
+
 /// The cell that holds p, and what a controller weighs its corners with.
 fn shares(grid: &Grid, p: Position, number: usize) -> String {
     let cell = &grid.cells[number];
     let volume = grid.volume6(cell, None);
     let head = format!("position {}: cell {number}", spaced(p));
     let mut text = format!("{head}, six-fold volume {volume}\n");
+    text += &holding(grid, p);
     for (place, &point) in cell.corners.iter().enumerate() {
         let own = grid.volume6(cell, Some((place, p)));
         let share = own as f64 / volume as f64;

@@ -1,0 +1,254 @@
+//! What is proved of the located cell in crates/located, looked at on each build by itself. After an insertion of any kind it is
+//! the same cell by its corners, unless it was in a corrected cavity: the parked head. And it is the same in tables that have
+//! the same cells in another order.
+
+use std::collections::{BTreeMap, BTreeSet};
+
+use compare::call::Call;
+use compare::generate::rearrange;
+use compare::guarded::GuardedTables;
+use compare::nodes::{self, Spread};
+use compare::{Builder, Plain, Tuned};
+use plain::cavity::Cavity;
+use plain::loaded::Loaded;
+use plain::random::Random;
+use plain::{Answers, Mesh, Owned, Position, RightRules, Rules};
+
+/// A cell's four corner numbers, sorted upward.
+type Corners = [u16; 4];
+
+fn corners(mesh: &Loaded, c: usize) -> Corners {
+    RightRules.order(c, mesh.cells[c].corners)
+}
+
+/// The mesh that a build makes.
+struct Bed<'a> {
+    build: &'a dyn Builder,
+    sides: Position,
+    spread: Spread,
+    mesh: Mesh,
+    tables: Owned,
+}
+
+/// A position and the cell that it is located in.
+struct Parked {
+    p: Position,
+    number: u32,
+    corners: Corners,
+    /// The cells that hold it, by number.
+    holding: Vec<Corners>,
+    /// How many points the mesh has.
+    points: u32,
+}
+
+impl Bed<'_> {
+    fn started<'a>(build: &'a dyn Builder, random: &mut Random) -> Bed<'a> {
+        let sides = nodes::sides(random);
+        let mut tables = Owned::with_room(40, 250);
+        let mesh = build.start(sides, &mut tables.lend()).mesh;
+        Bed {
+            build,
+            sides,
+            spread: nodes::spread(random),
+            mesh,
+            tables,
+        }
+    }
+
+    fn loaded(&mut self) -> Loaded {
+        Loaded::load(self.mesh, &self.tables.lend())
+    }
+
+    fn locate(&mut self, p: Position) -> Parked {
+        let located = self.build.locate(self.mesh, &mut self.tables.lend(), p);
+        assert_eq!(located.refusal, 0);
+        let mesh = self.loaded();
+        let holding = mesh.holding(p);
+        Parked {
+            p,
+            number: located.cell,
+            corners: corners(&mesh, located.cell as usize),
+            holding: holding.into_iter().map(|c| corners(&mesh, c)).collect(),
+            points: self.mesh.points,
+        }
+    }
+
+    /// Heads at places of some cells: corners, edges, faces and inside.
+    fn park(&mut self, random: &mut Random) -> Vec<Parked> {
+        let mesh = self.loaded();
+        let mut head = || {
+            let corners = mesh.positions(random.index(mesh.cells.len()));
+            self.locate(nodes::in_cell(random, corners))
+        };
+        (0..8).map(|_| head()).collect()
+    }
+
+    fn node(&self, random: &mut Random) -> Position {
+        nodes::inside(random, self.sides, self.spread)
+    }
+
+    fn insertion(&self, random: &mut Random) -> Call {
+        match random.below(3) {
+            0 => Call::Insert(self.node(random)),
+            1 => {
+                let bytes = nodes::answers(random, self.mesh.cells as usize);
+                Call::InsertAnswers(bytes, self.node(random))
+            }
+            _ => Call::InsertList((0..4).flat_map(|_| self.node(random)).collect()),
+        }
+    }
+
+    /// Makes the call; the cells that were in a corrected cavity, by their corners.
+    fn insert(&mut self, call: &Call) -> BTreeSet<Corners> {
+        let (mesh, tables) = (self.mesh, self.tables.clone());
+        let left = call.make(self.build, mesh, &GuardedTables::new(&tables));
+        self.tables = left.tables.owned();
+        self.mesh = left.answer.mesh().expect("an insertion");
+        let went_in = (self.mesh.points - mesh.points) as usize;
+        replaced(call, mesh, tables, went_in)
+    }
+}
+
+/// The cells of the corrected cavities of the first nodes of a call, by the plain build.
+fn replaced(call: &Call, mut mesh: Mesh, mut tables: Owned, count: usize) -> BTreeSet<Corners> {
+    let (answers, nodes) = match call {
+        Call::Insert(p) => (Answers::Float, vec![*p]),
+        Call::InsertAnswers(bytes, p) => (Answers::Given(bytes), vec![*p]),
+        Call::InsertList(numbers) => (Answers::Float, numbers.as_chunks().0.to_vec()),
+        _ => panic!("not an insertion"),
+    };
+    let mut all = BTreeSet::new();
+    for &p in &nodes[..count] {
+        let loaded = Loaded::load(mesh, &tables.lend());
+        let mut cavity = Cavity::base(&RightRules, &loaded, p);
+        cavity.grow(answers);
+        RightRules.correct(&mut cavity);
+        all.extend(cavity.cells().into_iter().map(|c| corners(&loaded, c)));
+        mesh = plain::insert_with(&RightRules, mesh, &mut tables.lend(), answers, p).mesh;
+    }
+    all
+}
+
+/// Of a head whose cell was not replaced.
+#[rustfmt::skip]
+fn situations(call: &Call, before: &Parked, after: &Parked) -> [(&'static str, bool); 7] {
+    let is_shared = before.holding.len() > 1;
+    let is_new = |corners: &Corners| corners[3] as u32 >= before.points;
+    [
+        ("strictly inside, or on a wall", !is_shared),
+        ("by the sphere test", is_shared && matches!(call, Call::Insert(_))),
+        ("by answers handed in", is_shared && matches!(call, Call::InsertAnswers(..))),
+        ("by a list, several nodes", is_shared && after.points > before.points + 1),
+        ("the number changed", is_shared && before.number != after.number),
+        ("a new cell holds it too", after.holding.iter().any(is_new)),
+        ("the lowest-numbered is another cell", before.holding[0] != after.holding[0]),
+    ]
+}
+
+type Counts = BTreeMap<&'static str, u64>;
+
+/// Parks heads, makes an insertion, and says where a head is in another cell then, though its own was not replaced.
+fn insert_elsewhere(bed: &mut Bed, random: &mut Random, counts: &mut Counts) -> Result<(), String> {
+    let parked = bed.park(random);
+    let call = bed.insertion(random);
+    let replaced = bed.insert(&call);
+    if replaced.is_empty() {
+        return Ok(()); // refused
+    }
+    for before in parked
+        .iter()
+        .filter(|head| !replaced.contains(&head.corners))
+    {
+        let after = bed.locate(before.p);
+        if after.corners != before.corners {
+            let (p, one, other) = (before.p, before.corners, after.corners);
+            return Err(format!("{p:?} was in {one:?}, and is in {other:?}"));
+        }
+        for (situation, occurs) in situations(&call, before, &after) {
+            *counts.entry(situation).or_insert(0) += u64::from(occurs);
+        }
+    }
+    Ok(())
+}
+
+/// Many insertions with heads that are parked.
+fn parked_heads(build: &dyn Builder) -> Result<Counts, String> {
+    let mut counts = Counts::new();
+    for seed in 0..150 {
+        let mut random = Random::new(seed);
+        let mut bed = Bed::started(build, &mut random);
+        for _ in 0..12 {
+            insert_elsewhere(&mut bed, &mut random, &mut counts)?;
+        }
+    }
+    Ok(counts)
+}
+
+/// The cells by their corners, of which no two are the same.
+fn cells(bed: &mut Bed) -> BTreeSet<Corners> {
+    let mesh = bed.loaded();
+    let cells: BTreeSet<_> = (0..mesh.cells.len()).map(|c| corners(&mesh, c)).collect();
+    assert_eq!(cells.len(), mesh.cells.len());
+    cells
+}
+
+/// Heads in many meshes, and in tables with the same cells in another order.
+fn any_order(build: &dyn Builder) -> Result<(), String> {
+    for seed in 0..150 {
+        let mut random = Random::new(seed);
+        let mut bed = Bed::started(build, &mut random);
+        for _ in 0..4 {
+            let call = bed.insertion(&mut random);
+            bed.insert(&call);
+        }
+        let same = cells(&mut bed);
+        for one in bed.park(&mut random) {
+            for _ in 0..20 {
+                rearrange(&mut random, bed.mesh, &mut bed.tables);
+            }
+            assert_eq!(cells(&mut bed), same);
+            let other = bed.locate(one.p);
+            if other.corners != one.corners {
+                let (p, one, other) = (one.p, one.corners, other.corners);
+                return Err(format!("{p:?} is in {one:?}, or in {other:?}"));
+            }
+        }
+    }
+    Ok(())
+}
+
+fn holds_of(build: &dyn Builder) {
+    let counts = parked_heads(build).expect("heads stay");
+    let missing: Vec<_> = counts.iter().filter(|(_, &count)| count == 0).collect();
+    assert!(missing.is_empty() && counts.len() == 7, "{missing:?}");
+    any_order(build).expect("one cell");
+}
+
+#[test]
+fn it_holds_of_plain_and_tuned() {
+    holds_of(&Plain::RIGHT);
+    holds_of(&Tuned);
+}
+
+/// Whether heads stay in their cells, and whether the order of the cells does not matter, of each wrong build of locate.
+#[test]
+fn wrong_builds_are_told_apart() {
+    for (name, stays, is_any_order) in [
+        // An insertion numbers kept cells as they were ordered, and new ones after them.
+        ("lowest-numbered", true, false),
+        ("corners-unsorted", true, false),
+        // Another order than the one that is asked for, but an order of the corners.
+        ("greatest-first", true, true),
+        ("last-in-order", false, true),
+    ] {
+        let build = compare::named(name).expect("a build");
+        assert_eq!(parked_heads(build.as_ref()).is_ok(), stays, "{name}");
+        assert_eq!(any_order(build.as_ref()).is_ok(), is_any_order, "{name}");
+    }
+}
+
+#[cfg(feature = "archive")]
+#[test]
+fn it_holds_of_the_archive() {
+    holds_of(&compare::Archive);
+}
