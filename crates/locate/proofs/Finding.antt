@@ -15,7 +15,7 @@ use Rattle.mesh.specs.Tables.{Tables}
 use Rattle.mesh.specs.Refusal.{meshRefusal}
 use Rattle.locate.specs.declared.Located.the-variants.{Cell, Refused}
 use Rattle.locate.specs.Locate.{holds, firstHolder, locateRefusal, locateCall}
-use Rattle.locate.proofs.First.{NoneHolds, Leads, leader, none-is, holder-leads}
+use Rattle.locate.proofs.First.{NoneHolds, IsFirst, first-or-none, none-is, holder-is-first}
 
 module _ (m : Mesh) (t : Tables) (w : ℕ) where
   module _ (q : Position) where
@@ -32,12 +32,12 @@ module _ (m : Mesh) (t : Tables) (w : ℕ) where
     none-held e = fails (anyBelow (m .cells) (holds t q)) (λ h. by (any-found (m .cells) (holds t q) h))
       where
         by : Found (m .cells) (holds t q) → ⊥
-        by r = let l = holder-leads t q (m .cells) (r .at) (r .below) (r .passes) .cell< in absurd (omega (arith, l, e))
+        by r = let l = holder-is-first t q (m .cells) (r .at) (r .below) (r .passes) .cell< in absurd (omega (arith, l, e))
 
     some-held : firstHolder t (m .cells) q ≢ m .cells → anyBelow (m .cells) (holds t q) ≡ true
-    some-held d = go (leader t q (m .cells))
+    some-held d = go (first-or-none t q (m .cells))
       where
-        go : ((b : ℕ) × Leads t q (m .cells) b) ⊎ NoneHolds t q (m .cells) → anyBelow (m .cells) (holds t q) ≡ true
+        go : ((b : ℕ) × IsFirst t q (m .cells) b) ⊎ NoneHolds t q (m .cells) → anyBelow (m .cells) (holds t q) ≡ true
         go (inl (b, l)) = any-intro (m .cells) (holds t q) b (l .cell<) (l .holding)
         go (inr none) = absurd (d (none-is t q (m .cells) none))
 

@@ -17,9 +17,9 @@ use Rattle.mesh.specs.Inner.{fourAt, Solid}
 use Rattle.mesh.proofs.Numbers.{four-corner}
 use Rattle.locate.specs.declared.Candidate.{Candidate}
 use Rattle.locate.specs.Order.{insertSorted, sorted, lexBefore}
-use Rattle.locate.specs.Locate.{holds, sortedCorners, holderBefore, firstHolder}
-use Rattle.locate.specs.Inner.{digits, aboveKeys, keyOf, better}
-use Rattle.locate.proofs.Order.{before-irrefl, before-trans, before-others, Below, sorted-mono, Has, sorted-has, Four, four, Small, digits-order, digits<}
+use Rattle.locate.specs.Locate.{holds, sortedCorners, earlierHolder, firstHolder}
+use Rattle.locate.specs.Inner.{digits, aboveKeys, keyOf, earlier}
+use Rattle.locate.proofs.Order.{before-irrefl, before-trans, before-later, AtMost, sorted-mono, Has, sorted-has, Four, four, Small, digits-order, digits<}
 
 -- ---- sorted corners
 
@@ -56,10 +56,10 @@ module _ (t t′ : Tables) (c d : ℕ) where
   unfolding sortedCorners
   corners-cong e = ap sorted (tabulate-cong 4 (corner t c) (corner t′ d) e)
 
-  pub corners-mono : ((i : ℕ) → i < 4 → corner t c i ≤ corner t′ d i) → Below (sortedCorners t c) (sortedCorners t′ d)
+  pub corners-mono : ((i : ℕ) → i < 4 → corner t c i ≤ corner t′ d i) → AtMost (sortedCorners t c) (sortedCorners t′ d)
   unfolding sortedCorners tabulate fill
   corners-mono h =
-      sorted-mono (Below.more (h 0 (omega arith)) (Below.more (h 1 (omega arith)) (Below.more (h 2 (omega arith)) (Below.more (h 3 (omega arith)) Below.ends))))
+      sorted-mono (AtMost.more (h 0 (omega arith)) (AtMost.more (h 1 (omega arith)) (AtMost.more (h 2 (omega arith)) (AtMost.more (h 3 (omega arith)) AtMost.ends))))
 
   -- cells with one list of sorted corners have the same corners
   pub corners-same : sortedCorners t c ≡ sortedCorners t′ d → (i : ℕ) → i < 4 → (j : ℕ) × (j < 4) × (corner t′ d j ≡ corner t c i)
@@ -76,7 +76,7 @@ module _ (t : Tables) (p : Position) where
   NoneHolds c = (k : ℕ) → k < c → holds t p k ≡ false
 
   -- of c cells, b holds p, and no cell that does comes before it; of those with equal corners it has the lowest number
-  pub record Leads (c b : ℕ) : Type 0 where
+  pub record IsFirst (c b : ℕ) : Type 0 where
     pub cell< : b < c
     pub holding : holds t p b ≡ true
     pub first : (k : ℕ) → k < c → holds t p k ≡ true → lexBefore (sortedCorners t k) (sortedCorners t b) ≡ false
@@ -86,16 +86,16 @@ module _ (t : Tables) (p : Position) where
     none-more : NoneHolds c → holds t p c ≡ false → NoneHolds (c + 1)
     none-more none e = below-more (λ k. holds t p k ≡ false) c none e
 
-    leads-more : (b : ℕ) → Leads c b → (holds t p c ≡ true → lexBefore (corners c) (corners b) ≡ false) → Leads (c + 1) b
-    leads-more b l new = record {
+    first-more : (b : ℕ) → IsFirst c b → (holds t p c ≡ true → lexBefore (corners c) (corners b) ≡ false) → IsFirst (c + 1) b
+    first-more b l new = record {
       cell< = omega (arith, l .cell<);
       holding = l .holding;
       first = below-more (λ k. holds t p k ≡ true → lexBefore (corners k) (corners b) ≡ false) c (l .first) new;
       lowest = l .lowest;
     }
 
-    leads-new : holds t p c ≡ true → ((k : ℕ) → k < c → holds t p k ≡ true → lexBefore (corners c) (corners k) ≡ true) → Leads (c + 1) c
-    leads-new e before = record {
+    first-new : holds t p c ≡ true → ((k : ℕ) → k < c → holds t p k ≡ true → lexBefore (corners c) (corners k) ≡ true) → IsFirst (c + 1) c
+    first-new e before = record {
       cell< = omega arith;
       holding = e;
       first = below-more (λ k. holds t p k ≡ true → lexBefore (corners k) (corners c) ≡ false) c
@@ -104,50 +104,50 @@ module _ (t : Tables) (p : Position) where
       lowest = before;
     }
 
-    leads-first : holds t p c ≡ true → NoneHolds c → Leads (c + 1) c
-    leads-first e none = leads-new e (λ k h f. clash f (none k h))
+    first-alone : holds t p c ≡ true → NoneHolds c → IsFirst (c + 1) c
+    first-alone e none = first-new e (λ k h f. clash f (none k h))
 
-    leads-before : (b : ℕ) → Leads c b → holds t p c ≡ true → lexBefore (corners c) (corners b) ≡ true → Leads (c + 1) c
-    leads-before b l e f =
-        leads-new e (λ k h g. before-others (corners b) (corners c) (corners k) (corners-length t c ∙ sym (corners-length t k)) f (l .first k h g))
+    first-before : (b : ℕ) → IsFirst c b → holds t p c ≡ true → lexBefore (corners c) (corners b) ≡ true → IsFirst (c + 1) c
+    first-before b l e f =
+        first-new e (λ k h g. before-later (corners b) (corners c) (corners k) (corners-length t c ∙ sym (corners-length t k)) f (l .first k h g))
 
   -- of any number of cells one leads, or none holds p
-  pub leader : (n : ℕ) → ((b : ℕ) × Leads n b) ⊎ NoneHolds n
-  leader zero = inr (λ k h. absurd (omega arith))
-  leader (suc n) = go (leader n) (split (holds t p n))
+  pub first-or-none : (n : ℕ) → ((b : ℕ) × IsFirst n b) ⊎ NoneHolds n
+  first-or-none zero = inr (λ k h. absurd (omega arith))
+  first-or-none (suc n) = go (first-or-none n) (split (holds t p n))
     where
-      next : {b : ℕ} → Leads (n + 1) b → Leads (suc n) b
-      next {b} l = subst (λ m. Leads m b) (omega arith) l
+      next : {b : ℕ} → IsFirst (n + 1) b → IsFirst (suc n) b
+      next {b} l = subst (λ m. IsFirst m b) (omega arith) l
 
-      go : ((b : ℕ) × Leads n b) ⊎ NoneHolds n → (holds t p n ≡ true) ⊎ (holds t p n ≡ false) → ((b : ℕ) × Leads (suc n) b) ⊎ NoneHolds (suc n)
-      go (inl (b, l)) (inr e) = inl (b, next (leads-more n b l (λ h. clash h e)))
-      go (inr none) (inl e) = inl (n, next (leads-first n e none))
+      go : ((b : ℕ) × IsFirst n b) ⊎ NoneHolds n → (holds t p n ≡ true) ⊎ (holds t p n ≡ false) → ((b : ℕ) × IsFirst (suc n) b) ⊎ NoneHolds (suc n)
+      go (inl (b, l)) (inr e) = inl (b, next (first-more n b l (λ h. clash h e)))
+      go (inr none) (inl e) = inl (n, next (first-alone n e none))
       go (inr none) (inr e) = inr (subst NoneHolds (omega arith) (none-more n none e))
       go (inl (b, l)) (inl e) = inl (by (split (lexBefore (corners n) (corners b))))
         where
-          by : (lexBefore (corners n) (corners b) ≡ true) ⊎ (lexBefore (corners n) (corners b) ≡ false) → (d : ℕ) × Leads (suc n) d
-          by (inl f) = (n, next (leads-before n b l e f))
-          by (inr f) = (b, next (leads-more n b l (λ h. f)))
+          by : (lexBefore (corners n) (corners b) ≡ true) ⊎ (lexBefore (corners n) (corners b) ≡ false) → (d : ℕ) × IsFirst (suc n) d
+          by (inl f) = (n, next (first-before n b l e f))
+          by (inr f) = (b, next (first-more n b l (λ h. f)))
 
   -- ---- the definition
 
   module _ (n : ℕ) where
     abbrev test : ℕ → Bool
-    test c = holds t p c && not (anyBelow n (holderBefore t p c))
+    test c = holds t p c && not (anyBelow n (earlierHolder t p c))
 
-    leader-is : (b : ℕ) → Leads n b → firstHolder t n p ≡ b
-    unfolding firstHolder holderBefore
-    leader-is b l = first-is n test b (l .cell<) (and-intro (l .holding) (rw none)) (λ k h. lower k h (split (holds t p k)))
+    first-holder-is : (b : ℕ) → IsFirst n b → firstHolder t n p ≡ b
+    unfolding firstHolder earlierHolder
+    first-holder-is b l = first-is n test b (l .cell<) (and-intro (l .holding) (rw none)) (λ k h. lower k h (split (holds t p k)))
       where
-        none : anyBelow n (holderBefore t p b) ≡ false
-        none = fails (anyBelow n (holderBefore t p b)) (λ e. by (any-found n (holderBefore t p b) e))
+        none : anyBelow n (earlierHolder t p b) ≡ false
+        none = fails (anyBelow n (earlierHolder t p b)) (λ e. by (any-found n (earlierHolder t p b) e))
           where
-            by : Found n (holderBefore t p b) → ⊥
+            by : Found n (earlierHolder t p b) → ⊥
             by r = clash (and-right (holds t p (r .at)) (lexBefore (corners (r .at)) (corners b)) (r .passes)) (l .first (r .at) (r .below) (and-left (holds t p (r .at)) (lexBefore (corners (r .at)) (corners b)) (r .passes)))
 
         lower : (k : ℕ) → k < b → (holds t p k ≡ true) ⊎ (holds t p k ≡ false) → test k ≡ false
         lower k h (inr e) = rw e
-        lower k h (inl e) = rw (e, any-intro n (holderBefore t p k) b (l .cell<) (and-intro (l .holding) (l .lowest k h e)))
+        lower k h (inl e) = rw (e, any-intro n (earlierHolder t p k) b (l .cell<) (and-intro (l .holding) (l .lowest k h e)))
 
     pub none-is : NoneHolds n → firstHolder t n p ≡ n
     unfolding firstHolder
@@ -158,11 +158,11 @@ module _ (t : Tables) (p : Position) where
     holder≤ = first≤ n test
 
     -- where some cell holds p, the answer leads
-    pub holder-leads : (c : ℕ) → c < n → holds t p c ≡ true → Leads n (firstHolder t n p)
-    holder-leads c h e = go (leader n)
+    pub holder-is-first : (c : ℕ) → c < n → holds t p c ≡ true → IsFirst n (firstHolder t n p)
+    holder-is-first c h e = go (first-or-none n)
       where
-        go : ((b : ℕ) × Leads n b) ⊎ NoneHolds n → Leads n (firstHolder t n p)
-        go (inl (b, l)) = subst (Leads n) (sym (leader-is b l)) l
+        go : ((b : ℕ) × IsFirst n b) ⊎ NoneHolds n → IsFirst n (firstHolder t n p)
+        go (inl (b, l)) = subst (IsFirst n) (sym (first-holder-is b l)) l
         go (inr none) = clash e (none c h)
 
 -- ---- keys
@@ -185,29 +185,29 @@ module _ (t : Tables) (n : ℕ) (small : (c i : ℕ) → c < n → i < 4 → cor
 -- ---- the candidate
 
 module _ (k : List ℕ) (c : ℕ) (b : Candidate) {key : ℕ} (e : key ≡ keyOf k) where
-  pub better-new : key < b .key → record { cell = c; key = key } ≡ better k c b
-  unfolding better
-  better-new h = rw (lt-ltb (keyOf k) (b .key) (omega (arith, e))) (ap (λ x. record { cell = c; key = x }) e)
+  pub earlier-new : key < b .key → record { cell = c; key = key } ≡ earlier k c b
+  unfolding earlier
+  earlier-new h = rw (lt-ltb (keyOf k) (b .key) (omega (arith, e))) (ap (λ x. record { cell = c; key = x }) e)
 
-  pub better-old : b .key ≤ key → b ≡ better k c b
-  unfolding better
-  better-old h = rw (fails (ltb (keyOf k) (b .key)) (λ l. omega (arith, e, ltb-true (keyOf k) (b .key) l)))
+  pub earlier-old : b .key ≤ key → b ≡ earlier k c b
+  unfolding earlier
+  earlier-old h = rw (fails (ltb (keyOf k) (b .key)) (λ l. omega (arith, e, ltb-true (keyOf k) (b .key) l)))
 
 -- after c of n cells: the cell that leads, with its key; n and a number above all keys where none holds p
-abbrev pub Best : Tables → Position → ℕ → ℕ → Candidate → Type 0
-Best t p n c b = (Leads t p c (b .cell) × (b .key ≡ cellKey t (b .cell))) ⊎ (NoneHolds t p c × ((b .cell ≡ n) × (b .key ≡ aboveKeys)))
+abbrev pub CandidateAfter : Tables → Position → ℕ → ℕ → Candidate → Type 0
+CandidateAfter t p n c b = (IsFirst t p c (b .cell) × (b .key ≡ cellKey t (b .cell))) ⊎ (NoneHolds t p c × ((b .cell ≡ n) × (b .key ≡ aboveKeys)))
 
 module _ (t : Tables) (p : Position) (n : ℕ) where
-  pub best-none : Best t p n 0 record { cell = n; key = aboveKeys }
-  best-none = inr ((λ k h. absurd (omega arith)), (refl, refl))
+  pub candidate-none : CandidateAfter t p n 0 record { cell = n; key = aboveKeys }
+  candidate-none = inr ((λ k h. absurd (omega arith)), (refl, refl))
 
-  pub best-more : (c : ℕ) {b : Candidate} → Best t p n c b → holds t p c ≡ false → Best t p n (c + 1) b
-  best-more c {b} (inl l) e = inl (leads-more t p c (b .cell) (l .0) (λ h. clash h e), l .1)
-  best-more c (inr l) e = inr (none-more t p c (l .0) e, l .1)
+  pub candidate-more : (c : ℕ) {b : Candidate} → CandidateAfter t p n c b → holds t p c ≡ false → CandidateAfter t p n (c + 1) b
+  candidate-more c {b} (inl l) e = inl (first-more t p c (b .cell) (l .0) (λ h. clash h e), l .1)
+  candidate-more c (inr l) e = inr (none-more t p c (l .0) e, l .1)
 
-  pub best-is : {c : ℕ} {b : Candidate} → Best t p n c b → c ≡ n → b .cell ≡ firstHolder t n p
-  best-is {b} (inl l) e = sym (leader-is t p n (b .cell) (subst (λ c. Leads t p c (b .cell)) e (l .0)))
-  best-is (inr l) e = l .1 .0 ∙ sym (none-is t p n (subst (NoneHolds t p) e (l .0)))
+  pub candidate-is : {c : ℕ} {b : Candidate} → CandidateAfter t p n c b → c ≡ n → b .cell ≡ firstHolder t n p
+  candidate-is {b} (inl l) e = sym (first-holder-is t p n (b .cell) (subst (λ c. IsFirst t p c (b .cell)) e (l .0)))
+  candidate-is (inr l) e = l .1 .0 ∙ sym (none-is t p n (subst (NoneHolds t p) e (l .0)))
 
 module _ (ps cs : List ℕ) (np n : ℕ) (S : Solid ps cs np n) (c : ℕ) (c< : c < n) {k : List ℕ} (ek : k ≡ fourAt cs c) where
   abbrev t : Tables
@@ -221,17 +221,17 @@ module _ (ps cs : List ℕ) (np n : ℕ) (S : Solid ps cs np n) (c : ℕ) (c< : 
   unfolding keyOf sortedCorners
   key-is = ap keyOf ek ∙ ap (λ l. digits (sorted l)) (tabulate-cong 4 (λ i. getD (fourAt cs c) i 0) (corner t c) (λ i h. four-corner t c i h))
 
-  pub best-better : (p : Position) {b : Candidate} → Best t p n c b → holds t p c ≡ true → Best t p n (c + 1) (better k c b)
-  unfolding better
-  best-better p {b} l e = go l (split (ltb (keyOf k) (b .key)))
+  pub candidate-earlier : (p : Position) {b : Candidate} → CandidateAfter t p n c b → holds t p c ≡ true → CandidateAfter t p n (c + 1) (earlier k c b)
+  unfolding earlier
+  candidate-earlier p {b} l e = go l (split (ltb (keyOf k) (b .key)))
     where
       -- the cell comes before the candidate just where its key is lower
       by-key : {y : Bool} → b .cell < n → b .key ≡ cellKey t (b .cell) → ltb (keyOf k) (b .key) ≡ y → lexBefore (sortedCorners t c) (sortedCorners t (b .cell)) ≡ y
       by-key h q f = key-order t n small c (b .cell) c< h ∙ (ap₂ ltb (sym key-is) (sym q) ∙ f)
 
-      go : Best t p n c b → (ltb (keyOf k) (b .key) ≡ true) ⊎ (ltb (keyOf k) (b .key) ≡ false) →
-          Best t p n (c + 1) (cond (ltb (keyOf k) (b .key)) record { cell = c; key = keyOf k } b)
-      go (inl (l, q)) (inl f) = rw f (inl (leads-before t p c (b .cell) l e (by-key (omega (arith, l .cell<)) q f), key-is))
-      go (inl (l, q)) (inr f) = rw f (inl (leads-more t p c (b .cell) l (λ h. by-key (omega (arith, l .cell<)) q f), q))
-      go (inr (none, q)) (inl f) = rw f (inl (leads-first t p c e none, key-is))
+      go : CandidateAfter t p n c b → (ltb (keyOf k) (b .key) ≡ true) ⊎ (ltb (keyOf k) (b .key) ≡ false) →
+          CandidateAfter t p n (c + 1) (cond (ltb (keyOf k) (b .key)) record { cell = c; key = keyOf k } b)
+      go (inl (l, q)) (inl f) = rw f (inl (first-before t p c (b .cell) l e (by-key (omega (arith, l .cell<)) q f), key-is))
+      go (inl (l, q)) (inr f) = rw f (inl (first-more t p c (b .cell) l (λ h. by-key (omega (arith, l .cell<)) q f), q))
+      go (inr (none, q)) (inl f) = rw f (inl (first-alone t p c e none, key-is))
       go (inr (none, q)) (inr f) = clash (lt-ltb (keyOf k) (b .key) (omega (arith, key-is, q .1, key< t n small c c<))) f

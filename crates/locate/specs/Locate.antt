@@ -24,13 +24,14 @@ unfoldable pub sortedCorners : Tables → ℕ → List ℕ
 sortedCorners t c = sorted (tabulate 4 (corner t c))
 
 -- cell d holds p, and its sorted corners come before those of c
-unfoldable pub holderBefore : Tables → Position → ℕ → ℕ → Bool
-holderBefore t p c d = holds t p d && lexBefore (sortedCorners t d) (sortedCorners t c)
+unfoldable pub earlierHolder : Tables → Position → ℕ → ℕ → Bool
+earlierHolder t p c d = holds t p d && lexBefore (sortedCorners t d) (sortedCorners t c)
 
 -- document 02 §3: of n cells, 'among the cells that hold the position, the one whose four corner numbers, sorted upward, come first in
--- order'. In a mesh there is just one: `one-cell` (located/proofs/Theorem).
+-- order'; n where none holds it. In a mesh just one comes first: `one-cell` (located/proofs/Theorem). Of equal corners, which a mesh does not
+-- have, the lowest number is taken.
 unfoldable pub firstHolder : Tables → ℕ → Position → ℕ
-firstHolder t n p = firstBelow n (λ c. holds t p c && not (anyBelow n (holderBefore t p c)))
+firstHolder t n p = firstBelow n (λ c. holds t p c && not (anyBelow n (earlierHolder t p c)))
 
 -- refusals 1 2 3 4 7. 7 never occurs: `never-seven` (covering/proofs/NeverSeven).
 unfoldable pub locateRefusal : Mesh → Tables → ℕ → Position → ℕ

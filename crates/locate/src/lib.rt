@@ -5,7 +5,7 @@ pub enum Located {
     Refused(u8),
 }
 
-// A cell that holds the position, and its key.
+// The cell that comes first so far, and its key; before there is one, the cell count and a number above all keys.
 pub struct Candidate {
     pub cell: usize,
     pub key: u64,

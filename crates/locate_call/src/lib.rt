@@ -7,7 +7,7 @@ ghost use Rattle.geometry.specs.Volume.{InRange};
 ghost use Rattle.mesh.specs.Tables.{tables, tablesBefore, cleared};
 ghost use Rattle.mesh.specs.Inner.{Solid};
 ghost use Rattle.locate.specs.Locate.{firstHolder, locateCall};
-ghost use Rattle.locate.specs.Inner.{better};
+ghost use Rattle.locate.specs.Inner.{earlier};
 use geometry::Position;
 use geometry::volume::in_box;
 use locate::Candidate;
@@ -25,8 +25,8 @@ use mesh_tables::four_at;
 const ABOVE_KEYS: u64 = 1099511627776;
 
 // Cell c with the corners k where it comes before the candidate, else the candidate.
-fn better(k: [u16; 4], c: usize, candidate: Candidate) -> Candidate
-    ensures { λ r. ⌜ r ≡ better k c candidate ⌝ }
+fn earlier(k: [u16; 4], c: usize, candidate: Candidate) -> Candidate
+    ensures { λ r. ⌜ r ≡ earlier k c candidate ⌝ }
 {
     let key = key_of(k);
     if key < candidate.key {
@@ -50,7 +50,7 @@ fn first_holder(points: &[u32], corners: &[u16], np: usize, n: usize, q: Positio
         let k = four_at(corners, c);
         if shared_bits(&codes, k) == 0 {
             if cell_holds(points, k, q) {
-                first = better(k, c, first);
+                first = earlier(k, c, first);
             }
         }
         c += 1;

@@ -23,8 +23,8 @@ use Rattle.mesh.proofs.FaceNumbers.{opposite<, cell<}
 use Rattle.mesh.proofs.Held.{Holds, side-at, own-corner, weighted-nonneg}
 use Rattle.locate.specs.Order.{lexBefore}
 use Rattle.locate.specs.Locate.{holds, sortedCorners, firstHolder}
-use Rattle.locate.proofs.Order.{Below, before-below}
-use Rattle.locate.proofs.First.{Leads, corners-cong, corners-mono, holder-leads}
+use Rattle.locate.proofs.Order.{AtMost, before-at-most}
+use Rattle.locate.proofs.First.{IsFirst, corners-cong, corners-mono, corners-same, holder-is-first}
 use Rattle.cavity.specs.Cavity.{visible}
 use Rattle.cavity.proofs.Tests.{holds-of, holds-yes}
 use Rattle.star.specs.Star.{kept?, keptNumber, madeNumber, newCount, star}
@@ -35,7 +35,7 @@ use Rattle.covering.proofs.Parts.{holds-whole, whole-in-box, holds-form}
 use Rattle.covering.proofs.Shared.{formWeighted, same-value}
 use Rattle.covering.proofs.Holders.{onlyAt, value-none, value-one}
 use Rattle.located.specs.Claim.{ComesFirst}
-use Rattle.located.proofs.Theorem.{none-before, holder-first, first-once}
+use Rattle.located.proofs.Theorem.{corners-once, first-where-none-before, holder-first, first-once}
 
 -- a cell that holds q, by the forms
 by-forms : (t : Tables) (q : Position) (c : ℕ) → holds t q c ≡ true → HoldsForm t (whole q) c
@@ -76,7 +76,7 @@ module _ {X Y Z pc cc np n : ℕ} {t : Tables} (M : IsMesh X Y Z pc cc np n t) {
     d = cellOf f
 
     -- one corner of the face's old cell is replaced by the greatest number
-    made-corners : Below (sortedCorners t d) (sortedCorners t′ e)
+    made-corners : AtMost (sortedCorners t d) (sortedCorners t′ e)
     made-corners = corners-mono t t′ d e (λ i h. go i h (ℕ-discrete i (opposite f)))
       where
         go : (i : ℕ) → i < 4 → Dec (i ≡ opposite f) → corner t d i ≤ corner t′ e i
@@ -116,9 +116,9 @@ module _ {X Y Z pc cc np n : ℕ} {t : Tables} (M : IsMesh X Y Z pc cc np n t) {
               (own-corner (cornerAt t d) l i hl h (unfold cellVolume in M .positive d (cell< f f<))))
 
   -- the cell that comes first does so again
-  first-kept : (q : Position) → InBox X Y Z q → (c : ℕ) → Leads t q n c → kept? s c ≡ true → ComesFirst t′ n′ q (keptNumber s c)
+  first-kept : (q : Position) → InBox X Y Z q → (c : ℕ) → IsFirst t q n c → kept? s c ≡ true → ComesFirst t′ n′ q (keptNumber s c)
   first-kept q inside c l k =
-      none-before M′ (new-room F) q (keptNumber s c) (kept-new< t n p s c (l .cell<) k) (kept-holds c (l .cell<) k q ∙ l .holding)
+      first-where-none-before M′ (new-room F) q (keptNumber s c) (kept-new< t n p s c (l .cell<) k) (kept-holds c (l .cell<) k q ∙ l .holding)
       (λ e e< h. ap (lexBefore (sortedCorners t′ e)) (kept-corners c (l .cell<) k) ∙ go e h (origin t n p s e e<))
     where
       go : (e : ℕ) → holds t′ q e ≡ true → Origin t n p s e → lexBefore (sortedCorners t′ e) (sortedCorners t c) ≡ false
@@ -126,17 +126,39 @@ module _ {X Y Z pc cc np n : ℕ} {t : Tables} (M : IsMesh X Y Z pc cc np n t) {
           ap (λ x. lexBefore x (sortedCorners t c)) (ap (sortedCorners t′) a ∙ kept-corners d d< kd) ∙
           l .first d d< (sym (kept-holds d d< kd q) ∙ (ap (holds t′ q) (sym a) ∙ h))
       go e h (from-made g g< v a) =
-          fails (lexBefore (sortedCorners t′ e) (sortedCorners t c)) (λ b. clash (before-below (made-corners g g< v) (sortedCorners t c) (ap (λ x. lexBefore (sortedCorners t′ x) (sortedCorners t c)) (sym a) ∙ b))
+          fails (lexBefore (sortedCorners t′ e) (sortedCorners t c)) (λ b. clash (before-at-most (made-corners g g< v) (sortedCorners t c) (ap (λ x. lexBefore (sortedCorners t′ x) (sortedCorners t c)) (sym a) ∙ b))
           (l .first (cellOf g) (cell< g g<) (old-holds g g< v q inside c (l .cell<) k (l .holding) (ap (holds t′ q) (sym a) ∙ h))))
 
-  -- with the number that the star gives it
-  pub holder-kept : (q : Position) → InBox X Y Z q → kept? s (firstHolder t n q) ≡ true → firstHolder t′ n′ q ≡ keptNumber s (firstHolder t n q)
+  -- with the number that the star gives it, and its corners
+  holder-kept : (q : Position) → InBox X Y Z q → kept? s (firstHolder t n q) ≡ true → firstHolder t′ n′ q ≡ keptNumber s (firstHolder t n q)
   holder-kept q inside k =
       let f = holder-first M (F .room) q inside in
-      let l = holder-leads t q n (firstHolder t n q) (f .cell<) (f .holding) in
+      let l = holder-is-first t q n (firstHolder t n q) (f .cell<) (f .holding) in
       first-once (keptNumber s (firstHolder t n q)) (firstHolder t′ n′ q) (first-kept q inside (firstHolder t n q) l k) (holder-first M′ (new-room F) q inside)
 
   pub same-corner : (q : Position) → InBox X Y Z q → kept? s (firstHolder t n q) ≡ true → (i : ℕ) → i < 4 →
       corner t′ (firstHolder t′ n′ q) i ≡ corner t (firstHolder t n q) i
   same-corner q inside k i h =
       ap (λ c. corner t′ c i) (holder-kept q inside k) ∙ kept-corner F (firstHolder t n q) (holder-first M (F .room) q inside .cell<) k i h
+
+  -- ---- cells whose corners are old points
+
+  -- they are kept cells: a new one has the new point
+  pub old-cell : (d : ℕ) → d < n′ → ((i : ℕ) → i < 4 → corner t′ d i < np) → (k : ℕ) × (k < n) × ((kept? s k ≡ true) × (sortedCorners t′ d ≡ sortedCorners t k))
+  old-cell d d< old = go (origin t n p s d d<)
+    where
+      go : Origin t n p s d → (k : ℕ) × (k < n) × ((kept? s k ≡ true) × (sortedCorners t′ d ≡ sortedCorners t k))
+      go (from-kept k k< e a) = (k, k<, (e, ap (sortedCorners t′) a ∙ kept-corners k k< e))
+      go (from-made f f< v a) =
+          let l = old (opposite f) (opposite< f) in
+          absurd (omega (arith, l, ap (λ c. corner t′ c (opposite f)) a, made-apex F f f< v (opposite f) (opposite< f) refl))
+
+  -- so a cell that stands was kept
+  pub standing-kept : (c d : ℕ) → c < n → d < n′ → sortedCorners t′ d ≡ sortedCorners t c → kept? s c ≡ true
+  standing-kept c d c< d< e = go (old-cell d d< (λ i h. old i (corners-same t′ t d c e i h)))
+    where
+      old : (i : ℕ) → (j : ℕ) × (j < 4) × (corner t c j ≡ corner t′ d i) → corner t′ d i < np
+      old i (j, hj, q) = subst (λ v. v < np) q (M .corner< c j c< hj)
+
+      go : (k : ℕ) × (k < n) × ((kept? s k ≡ true) × (sortedCorners t′ d ≡ sortedCorners t k)) → kept? s c ≡ true
+      go (k, k<, (h, q)) = subst (λ x. kept? s x ≡ true) (corners-once M (F .room) k c k< c< (sym q ∙ e)) h

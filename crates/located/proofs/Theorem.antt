@@ -14,6 +14,7 @@ use Rattle.geometry.proofs.Ranges.{box-in}
 use Rattle.mesh.specs.declared.Mesh.{Mesh}
 use Rattle.mesh.specs.Tables.{Tables, pointCapacity, cellCapacity, point, corner, cornerAt, cellVolume}
 use Rattle.mesh.specs.Mesh.{IsMesh}
+use Rattle.mesh.specs.Check.{isMesh}
 use Rattle.mesh.specs.Refusal.{meshRefusal}
 use Rattle.mesh.proofs.Room.{Room, room-of}
 use Rattle.mesh.proofs.Checked.{check-mesh}
@@ -23,7 +24,7 @@ use Rattle.locate.specs.declared.Located.the-variants.{Cell}
 use Rattle.locate.specs.Order.{lexBefore}
 use Rattle.locate.specs.Locate.{holds, sortedCorners, firstHolder, locateCall}
 use Rattle.locate.proofs.Order.{before-irrefl, before-trans, before-same}
-use Rattle.locate.proofs.First.{corners-length, corners-same, holder-leads}
+use Rattle.locate.proofs.First.{corners-length, corners-same, holder-is-first}
 use Rattle.locate.proofs.Finding.{outside, found}
 use Rattle.cavity.proofs.Tests.{holds-of, holds-yes}
 use Rattle.covering.proofs.Theorem.{covering, some-holds}
@@ -36,9 +37,9 @@ module _ {X Y Z pc cc np n : ℕ} {t : Tables} (M : IsMesh X Y Z pc cc np n t) (
   corners-once c d lc ld e = corners-tell-cells M R c d lc ld (corners-same t t c d e)
 
   -- so a cell that no other comes before comes before all others
-  pub none-before : (p : Position) (c : ℕ) → c < n → holds t p c ≡ true →
+  pub first-where-none-before : (p : Position) (c : ℕ) → c < n → holds t p c ≡ true →
       ((d : ℕ) → d < n → holds t p d ≡ true → lexBefore (sortedCorners t d) (sortedCorners t c) ≡ false) → ComesFirst t n p c
-  none-before p c l h none = record { cell< = l; holding = h; before-others = λ d ld ne hd. go d ld ne hd (split (lexBefore (sortedCorners t c) (sortedCorners t d))) }
+  first-where-none-before p c l h none = record { cell< = l; holding = h; before-others = λ d ld ne hd. go d ld ne hd (split (lexBefore (sortedCorners t c) (sortedCorners t d))) }
     where
       go : (d : ℕ) → d < n → d ≢ c → holds t p d ≡ true →
           (lexBefore (sortedCorners t c) (sortedCorners t d) ≡ true) ⊎ (lexBefore (sortedCorners t c) (sortedCorners t d) ≡ false) →
@@ -52,8 +53,8 @@ module _ {X Y Z pc cc np n : ℕ} {t : Tables} (M : IsMesh X Y Z pc cc np n t) (
   pub holder-first : (p : Position) → InBox X Y Z p → ComesFirst t n p (firstHolder t n p)
   holder-first p box =
       let h = some-holds (covering M R) p box in
-      let l = holder-leads t p n (h .0) (h .1) (h .2) in
-      none-before p (firstHolder t n p) (l .cell<) (l .holding) (l .first)
+      let l = holder-is-first t p n (h .0) (h .1) (h .2) in
+      first-where-none-before p (firstHolder t n p) (l .cell<) (l .holding) (l .first)
 
 -- and no two cells do, in any tables
 pub first-once : {t : Tables} {n : ℕ} {p : Position} (c d : ℕ) → ComesFirst t n p c → ComesFirst t n p d → d ≡ c
@@ -65,9 +66,13 @@ first-once {t} c d f g = go (ℕ-discrete d c)
         clash (before-trans (sortedCorners t c) (sortedCorners t d) (sortedCorners t c) (f .before-others d (g .cell<) ne (g .holding))
         (g .before-others c (f .cell<) (λ e. ne (sym e)) (f .holding))) (before-irrefl (sortedCorners t c))
 
-pub is-mesh : (m : Mesh) (t : Tables) (w : ℕ) → meshRefusal m t w false ≡ 0 →
+pub mesh-of : (m : Mesh) (t : Tables) (w : ℕ) → isMesh m t w ≡ true →
     IsMesh (m .x) (m .y) (m .z) (pointCapacity t) (cellCapacity t w) (m .points) (m .cells) t
-is-mesh m t w z = check-mesh (m .x) (m .y) (m .z) (pointCapacity t) (cellCapacity t w) (m .points) (m .cells) t (passed m t w false z)
+mesh-of m t w e = check-mesh (m .x) (m .y) (m .z) (pointCapacity t) (cellCapacity t w) (m .points) (m .cells) t e
+
+is-mesh : (m : Mesh) (t : Tables) (w : ℕ) → meshRefusal m t w false ≡ 0 →
+    IsMesh (m .x) (m .y) (m .z) (pointCapacity t) (cellCapacity t w) (m .points) (m .cells) t
+is-mesh m t w z = mesh-of m t w (passed m t w false z)
 
 pub is-located : (m : Mesh) (t : Tables) (w : ℕ) (p : Position) → meshRefusal m t w false ≡ 0 → inBox (m .x) (m .y) (m .z) p ≡ true →
     locateCall m t w p ≡ Cell (firstHolder t (m .cells) p)
@@ -135,7 +140,7 @@ module _ {X Y Z pc cc np n X′ Y′ Z′ pc′ cc′ np′ n′ : ℕ} {t t′ 
           ap₂ lexBefore e (sym q) ∙
           f .before-others b lb (λ a. ne (corners-once M′ R′ k d lk ld (sym q ∙ (ap (sortedCorners t) a ∙ sym e)))) (same-holds b k lb lk (sym q) p ∙ h)
 
-  pub same-holder : (p : Position) → InBox X Y Z p → InBox X′ Y′ Z′ p → sortedCorners t′ (firstHolder t′ n′ p) ≡ sortedCorners t (firstHolder t n p)
+  same-holder : (p : Position) → InBox X Y Z p → InBox X′ Y′ Z′ p → sortedCorners t′ (firstHolder t′ n′ p) ≡ sortedCorners t (firstHolder t n p)
   same-holder p box box′ = go (there (firstHolder t n p) (holder-first M R p box .cell<))
     where
       go : (d : ℕ) × (d < n′) × (sortedCorners t′ d ≡ sortedCorners t (firstHolder t n p)) →
@@ -144,7 +149,7 @@ module _ {X Y Z pc cc np n X′ Y′ Z′ pc′ cc′ np′ n′ : ℕ} {t t′ 
           ap (sortedCorners t′) (first-once d (firstHolder t′ n′ p) (same-first p (firstHolder t n p) d ld e (holder-first M R p box)) (holder-first M′ R′ p box′)) ∙ e
 
 -- answers of two calls that tests 1 to 3 let pass, in boxes with the same sides
-pub same-answer : (m m′ : Mesh) (t t′ : Tables) (w w′ : ℕ) (p : Position) → meshRefusal m t w false ≡ 0 → meshRefusal m′ t′ w′ false ≡ 0 →
+same-answer : (m m′ : Mesh) (t t′ : Tables) (w w′ : ℕ) (p : Position) → meshRefusal m t w false ≡ 0 → meshRefusal m′ t′ w′ false ≡ 0 →
     inBox (m .x) (m .y) (m .z) p ≡ inBox (m′ .x) (m′ .y) (m′ .z) p →
     (inBox (m .x) (m .y) (m .z) p ≡ true → sortedCorners t′ (firstHolder t′ (m′ .cells) p) ≡ sortedCorners t (firstHolder t (m .cells) p)) →
     SameAnswer t t′ (locateCall m t w p) (locateCall m′ t′ w′ p)

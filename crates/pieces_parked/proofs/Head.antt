@@ -1,14 +1,12 @@
 -- The parked head, by computation.
 use mathlib.Core.Path.{refl}
 use Rattle.locate.specs.Order.{insertSorted, sorted, lexBefore}
-use Rattle.locate.specs.Locate.{sortedCorners, holderBefore, firstHolder, locateRefusal, locateCall}
-use Rattle.located.specs.Parked.{outsideIf, outsideCall, outsideCalls}
+use Rattle.locate.specs.Locate.{sortedCorners, earlierHolder, firstHolder, locateRefusal, locateCall}
 use Rattle.pieces.proofs.Opened.{opened}
-use Rattle.pieces_parked.specs.Head.{before, insertion, after, head, ParkedHead}
+use Rattle.pieces_parked.specs.Head.{before, node, after, head, ParkedHead}
 
 parked-head : ParkedHead
-unfolding opened insertSorted sorted lexBefore sortedCorners holderBefore firstHolder locateRefusal locateCall outsideIf outsideCall outsideCalls
-    before insertion after head
+unfolding opened insertSorted sorted lexBefore sortedCorners earlierHolder firstHolder locateRefusal locateCall before node after head
 parked-head =
     record {
       held = refl;

@@ -1,5 +1,4 @@
 -- A head parked on a shared face while a node goes in elsewhere: README's example.
-use mathlib.Core.Bool.{true}
 use mathlib.Core.List.{[], _∷_}
 use mathlib.Core.Path.{_≡_}
 use Rattle.arith.specs.Table.{selectBelow}
@@ -7,20 +6,21 @@ use Rattle.geometry.specs.declared.Position.{Position}
 use Rattle.geometry.specs.Volume.{position}
 use Rattle.locate.specs.declared.Located.the-variants.{Cell}
 use Rattle.locate.specs.Locate.{holds, sortedCorners, locateCall}
-use Rattle.calls.specs.Calls.{Build, startBuild, Call, by-sphere, meshAfter}
-use Rattle.located.specs.Parked.{outsideCalls}
+use Rattle.cavity.specs.Answers.{sphere}
+use Rattle.calls.specs.Calls.{Build, startBuild, by-sphere, meshAfter}
+use Rattle.located.specs.Parked.{OutsideCavity}
 use Rattle.pieces.specs.Piece.{lent}
 
 -- the box 4, 4, 4 with a node in its middle
 unfoldable pub before : Build
 before = meshAfter (startBuild 4 4 4 (lent 18) 54) (by-sphere 54 (position 2 2 2) ∷ [])
 
--- the middle of the wall x = 4 goes in
-unfoldable pub insertion : Call
-insertion = by-sphere 54 (position 4 2 2)
+-- the middle of the wall x = 4
+unfoldable pub node : Position
+node = position 4 2 2
 
 unfoldable pub after : Build
-after = meshAfter before (insertion ∷ [])
+after = meshAfter before (by-sphere 54 node ∷ [])
 
 unfoldable pub head : Position
 head = position 3 1 2
@@ -32,7 +32,7 @@ pub record ParkedHead : Type 0 where
   pub corners-11 : sortedCorners (before .tables) 11 ≡ 0 ∷ 1 ∷ 5 ∷ 8 ∷ []
   pub located : locateCall (before .mesh) (before .tables) 54 head ≡ Cell 11
   -- the cell that comes first is outside the corrected cavity, and has another number then
-  pub outside : outsideCalls before (insertion ∷ []) head ≡ true
+  pub outside : OutsideCavity (before .mesh) (before .tables) node sphere 11
   pub located-again : locateCall (after .mesh) (after .tables) 54 head ≡ Cell 9
   pub same-corners : sortedCorners (after .tables) 9 ≡ 0 ∷ 1 ∷ 5 ∷ 8 ∷ []
   -- a new cell holds the head too

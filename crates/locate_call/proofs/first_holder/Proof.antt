@@ -9,12 +9,12 @@ use Rattle.mesh.specs.Tables.{tables}
 use Rattle.locate.specs.Locate.{holds}
 use Rattle.locate.specs.Inner.{holdsFour, Coded}
 use Rattle.locate.proofs.Codes.{codes-length, coded, ruled-out, holds-is}
-use Rattle.locate.proofs.First.{Best, best-none, best-more, best-better, best-is}
+use Rattle.locate.proofs.First.{CandidateAfter, candidate-none, candidate-more, candidate-earlier, candidate-is}
 use Rattle.locate_call.proofs.first_holder.Statement.{statement}
 use Rattle.locate_call.proofs.first_holder.Tie as tie
 
 abbrev Inv-loop : tie.InvT-loop
-Inv-loop points corners np n q codes first₀ c₀ first c = (c ≤ n) × Best (tables points corners []) q n c first
+Inv-loop points corners np n q codes first₀ c₀ first c = (c ≤ n) × CandidateAfter (tables points corners []) q n c first
 
 abbrev μ-loop : tie.MeasureT-loop
 μ-loop points corners np n q codes first₀ c₀ first c = n - c
@@ -35,7 +35,7 @@ side-codes-requires : tie.Need-side-codes-requires Inv-loop μ-loop
 side-codes-requires c κs = let p = c .before .before .pre .0 .placed in (p .points-few, p .points-fit)
 
 loop-holds : tie.Need-loop-holds Inv-loop μ-loop
-loop-holds c = (omega arith, best-none _ _ _)
+loop-holds c = (omega arith, candidate-none _ _ _)
 
 four-at-requires : tie.Need-four-at-requires Inv-loop μ-loop
 four-at-requires c κs = search needs
@@ -49,8 +49,8 @@ shared-bits-requires c κs = cell (c .before) .code<
 cell-holds-requires : tie.Need-cell-holds-requires Inv-loop μ-loop
 cell-holds-requires c κs = let f = c .before .before .before in (cell f .corners, start f .pre .1)
 
-better-requires : tie.Need-better-requires Inv-loop μ-loop
-better-requires c κs = search needs
+earlier-requires : tie.Need-earlier-requires Inv-loop μ-loop
+earlier-requires c κs = search needs
 
 add-c : tie.Need-add-c Inv-loop μ-loop
 add-c c = omega arith
@@ -65,17 +65,17 @@ loop-again c =
     let l = f .before .before .loop in (
       omega arith,
       ⊎-elim
-          (λ w. subst (Best _ _ _ _) (sym (w .4 ∙ w .3 .ensures))
-          (best-better _ _ _ _ (p .0) _ (omega arith) (f .four-at .ensures) _ (l .inv .1) (sym (w .1 .ensures ∙ is-held f) ∙ w .2 .taken)))
+          (λ w. subst (CandidateAfter _ _ _ _) (sym (w .4 ∙ w .3 .ensures))
+          (candidate-earlier _ _ _ _ (p .0) _ (omega arith) (f .four-at .ensures) _ (l .inv .1) (sym (w .1 .ensures ∙ is-held f) ∙ w .2 .taken)))
           (⊎-elim
-          (λ w. subst (Best _ _ _ _) (sym (w .3)) (best-more _ _ _ _ (l .inv .1) (sym (w .1 .ensures ∙ is-held f) ∙ w .2 .left)))
-          (λ w. subst (Best _ _ _ _) (sym (w .1)) (best-more _ _ _ _ (l .inv .1)
+          (λ w. subst (CandidateAfter _ _ _ _) (sym (w .3)) (candidate-more _ _ _ _ (l .inv .1) (sym (w .1 .ensures ∙ is-held f) ∙ w .2 .left)))
+          (λ w. subst (CandidateAfter _ _ _ _) (sym (w .1)) (candidate-more _ _ _ _ (l .inv .1)
           (ruled-out _ _ _ _ _ (p .0) _ (omega arith) [] (f .before .before .before .side-codes .ensures) (f .four-at .ensures) (λ z. w .0 .left (c .before .shared-bits .ensures ∙ z))))))
           (c .if1 .came),
     )
 
 returns : tie.Need-returns Inv-loop μ-loop
-returns c = best-is _ _ _ (c .before .loop .inv .1) (omega arith)
+returns c = candidate-is _ _ _ (c .before .loop .inv .1) (omega arith)
 
 pub first-holder-spec : {M : Type 1} → statement M
 first-holder-spec =
@@ -89,7 +89,7 @@ first-holder-spec =
     slice-aggregate-shared-bits
     shared-bits-requires
     cell-holds-requires
-    better-requires
+    earlier-requires
     add-c
     loop-less
     loop-again

@@ -8,7 +8,7 @@ use Rattle.geometry.specs.Volume.{inBox}
 use Rattle.mesh.specs.Tables.{Tables, corner, cornerAt, side, tables}
 use Rattle.mesh.specs.Refusal.{meshRefusal}
 use Rattle.mesh.proofs.Verdict.{solid, in-range, passed}
-use Rattle.locate.specs.Locate.{holds, sortedCorners, holderBefore, firstHolder}
+use Rattle.locate.specs.Locate.{holds, sortedCorners, earlierHolder, firstHolder}
 use Rattle.locate.proofs.First.{holder≤}
 use Rattle.locate.proofs.Finding.{refused, outside, unheld, found}
 use Rattle.locate_call.proofs.locate.Statement.{statement}
@@ -35,7 +35,7 @@ first : (c : tie.After-first-holder) →
     let r = c .before .before .before .before .before .before in
     let a = start r .args in
     c .first-holder .result ≡ firstHolder (lent r) (a .mesh .cells) (a .q)
-unfolding firstHolder holderBefore holds sortedCorners side cornerAt corner
+unfolding firstHolder earlierHolder holds sortedCorners side cornerAt corner
 first c = c .first-holder .ensures
 
 clear-requires : tie.Need-clear-requires
