@@ -105,10 +105,10 @@ gantry_listed gantry_insert_list(gantry_mesh mesh, GANTRY_TABLES, const uint32_t
 
 /*
  * Of the cells that hold a position, their faces, edges and corners included, the one whose four corner numbers, sorted upward, come
- * first in order: of two cells the one with the lower number where they first differ. No two cells have the same four, so in which
- * order the tables have the cells does not matter. After an insertion that does not replace the located cell, the position is located
- * in it again, by its four corners; its number may have changed, and new cells may hold the position too. That is proved in
- * crates/located. Writes the work area alone. Refusals 1 2 3 4 7.
+ * first in order: of two cells the one with the lower number where they first differ. No two cells have the same four, so which cell it
+ * is does not depend on the order of the cells in the tables; its number does. While a cell with its corners stands, the position is
+ * located in it after insertions too, though new cells may hold it; its number may have changed. That is proved in crates/located.
+ * Writes the work area alone. Refusals 1 2 3 4 7.
  */
 gantry_located gantry_locate(gantry_mesh mesh, GANTRY_TABLES, uint32_t x, uint32_t y, uint32_t z);
 

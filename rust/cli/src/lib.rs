@@ -1,5 +1,6 @@
 //! The command `gantry`. The cells, the mesh check, the located cell, the volumes and the node files that are read, merged
-//! and written come from the proved archive; reading text and listings, explaining a check and drawing are this crate's own.
+//! and written come from the proved archive; reading text and listings, explaining a check, naming the cells that hold a
+//! position and drawing are this crate's own.
 
 pub mod check;
 pub mod commands;

@@ -21,7 +21,7 @@ pub struct History {
     spread: Spread,
     mesh: Mesh,
     tables: Owned,
-    /// Where a position was located last.
+    /// The position of the last locate call.
     parked: Option<Position>,
     calls_left: u64,
     is_begun: bool,

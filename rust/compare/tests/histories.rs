@@ -1,5 +1,5 @@
 //! The histories of examples/histories: each tells its wrong build apart. Six of them, and what they leave, are those of the
-//! proved table in crates/pieces.
+//! proved table in crates/pieces; a seventh is the proved head of crates/pieces_parked.
 
 use std::fmt::Write;
 
@@ -100,6 +100,32 @@ fn they_are_the_proved_ones() {
         let lines: Vec<&str> = expected.split_inclusive('\n').collect();
         let before = numbers(between(piece, "before =", ";")).len() / 4;
         assert_eq!(lines[before..].concat(), left(piece), "{name}");
+    }
+}
+
+/// The head of lowest-numbered: its calls, and the cells that it is located in.
+#[test]
+fn the_parked_head_is_the_proved_one() {
+    let text = read("crates/pieces_parked/specs/Head.antt");
+    let line = |from: &str| numbers(between(&text, from, "\n"));
+    let (before, node, head) = (line("\nbefore ="), line("\nnode ="), line("\nhead ="));
+    let [x, y, z, cells, _work, _call, nodes @ ..] = &before[..] else {
+        panic!("{before:?}");
+    };
+    let (nodes, node, head) = (words(nodes), words(&node), words(&head));
+    let calls = format!(
+        "box {x} {y} {z} points 11 cells {cells}\nsphere {nodes}\nlocate {head}\nsphere {node}\nlocate {head}\n"
+    );
+    assert_eq!(read("examples/histories/lowest-numbered.calls"), calls);
+    let expected = read("examples/histories/lowest-numbered.txt");
+    for (cell, corners) in [
+        ("pub located :", "pub corners-11 :"),
+        ("pub located-again :", "pub same-corners :"),
+    ] {
+        let cell = line(cell).pop().expect("a cell");
+        let corners = &line(corners)[1..];
+        let located = format!("\ncell {cell} corners {}\n", words(corners));
+        assert!(expected.contains(&located), "{located}");
     }
 }
 

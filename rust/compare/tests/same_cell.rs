@@ -232,7 +232,7 @@ fn it_holds_of_plain_and_tuned() {
 
 /// Whether heads stay in their cells, and whether the order of the cells does not matter, of each wrong build of locate.
 #[test]
-fn wrong_builds_are_told_apart() {
+fn which_law_each_wrong_build_breaks() {
     for (name, stays, is_any_order) in [
         // An insertion numbers kept cells as they were ordered, and new ones after them.
         ("lowest-numbered", true, false),

@@ -124,7 +124,7 @@ impl Rules for OneAtATime {
     }
 }
 
-/// The lowest-numbered of the cells that hold a position is located: document 01's rule, which document 02 replaces.
+/// The lowest-numbered of the cells that hold a position is located: the rule that document 02 §3 replaces.
 pub struct LowestNumbered;
 
 impl Rules for LowestNumbered {

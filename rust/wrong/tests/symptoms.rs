@@ -208,7 +208,7 @@ fn parked(rules: &dyn Rules, wall: Position) -> [(u32, [u16; 4]); 2] {
 
 /// README's example. The node takes the place of the cell with the corners 1, 5, 7 and 8.
 #[test]
-fn lowest_numbered_moves_a_parked_head() {
+fn readmes_head_by_either_rule() {
     let [right, wrong] =
         [&RightRules as &dyn Rules, &LowestNumbered].map(|rules| parked(rules, [4, 2, 2]));
     assert_eq!(right, [(11, [0, 1, 5, 8]), (9, [0, 1, 5, 8])]);
