@@ -99,8 +99,8 @@ module _ (q : Position) where
   then {m} {m′} {m″} {t} {t′} {t″} C s s′ = record {
     box = s′ .box ∙ s .box;
     points≤ = omega (arith, s .points≤, s′ .points≤);
-    old-cells = λ d d< old. stood d d< old;
-    corners = λ b S i h. located b S i h;
+    old-cells = stood;
+    corners = located;
   }
     where
       middle : (d : ℕ) → d < m″ .cells → ((i : ℕ) → i < 4 → corner t″ d i < m .points) → Stands t″ d t′ (m′ .cells)
