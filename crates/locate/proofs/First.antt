@@ -65,6 +65,9 @@ module _ (t t′ : Tables) (c d : ℕ) where
   pub corners-same : sortedCorners t c ≡ sortedCorners t′ d → (i : ℕ) → i < 4 → (j : ℕ) × (j < 4) × (corner t′ d j ≡ corner t c i)
   corners-same e i h = have-corners t′ d (corner t c i) (subst (Has (corner t c i)) e (corners-have t c i h))
 
+  pub corners-below : sortedCorners t c ≡ sortedCorners t′ d → (v : ℕ) → ((j : ℕ) → j < 4 → corner t′ d j < v) → (i : ℕ) → i < 4 → corner t c i < v
+  corners-below e v each i h = let j = corners-same e i h in subst (λ x. x < v) (j .2) (each (j .0) (j .1))
+
 -- ---- cell by cell
 
 module _ (t : Tables) (p : Position) where

@@ -24,7 +24,7 @@ use Rattle.mesh.proofs.Held.{Holds, side-at, own-corner, weighted-nonneg}
 use Rattle.locate.specs.Order.{lexBefore}
 use Rattle.locate.specs.Locate.{holds, sortedCorners, firstHolder}
 use Rattle.locate.proofs.Order.{AtMost, before-at-most}
-use Rattle.locate.proofs.First.{IsFirst, corners-cong, corners-mono, corners-same, holder-is-first}
+use Rattle.locate.proofs.First.{IsFirst, corners-cong, corners-mono, corners-below, holder-is-first}
 use Rattle.cavity.specs.Cavity.{visible}
 use Rattle.cavity.proofs.Tests.{holds-of, holds-yes}
 use Rattle.star.specs.Star.{kept?, keptNumber, madeNumber, newCount, star}
@@ -34,7 +34,7 @@ use Rattle.covering.proofs.Linear.{form, form-whole, HoldsForm}
 use Rattle.covering.proofs.Parts.{holds-whole, whole-in-box, holds-form}
 use Rattle.covering.proofs.Shared.{formWeighted, same-value}
 use Rattle.covering.proofs.Holders.{onlyAt, value-none, value-one}
-use Rattle.located.specs.Claim.{ComesFirst}
+use Rattle.located.specs.Claim.{ComesFirst, Stands}
 use Rattle.located.proofs.Theorem.{corners-once, first-where-none-before, holder-first, first-once}
 
 -- a cell that holds q, by the forms
@@ -144,21 +144,17 @@ module _ {X Y Z pc cc np n : ℕ} {t : Tables} (M : IsMesh X Y Z pc cc np n t) {
   -- ---- cells whose corners are old points
 
   -- they are kept cells: a new one has the new point
-  pub old-cell : (d : ℕ) → d < n′ → ((i : ℕ) → i < 4 → corner t′ d i < np) → (k : ℕ) × (k < n) × ((kept? s k ≡ true) × (sortedCorners t′ d ≡ sortedCorners t k))
+  pub old-cell : (d : ℕ) → d < n′ → ((i : ℕ) → i < 4 → corner t′ d i < np) → (k : ℕ) × (k < n) × ((kept? s k ≡ true) × (sortedCorners t k ≡ sortedCorners t′ d))
   old-cell d d< old = go (origin t n p s d d<)
     where
-      go : Origin t n p s d → (k : ℕ) × (k < n) × ((kept? s k ≡ true) × (sortedCorners t′ d ≡ sortedCorners t k))
-      go (from-kept k k< e a) = (k, k<, (e, ap (sortedCorners t′) a ∙ kept-corners k k< e))
+      go : Origin t n p s d → (k : ℕ) × (k < n) × ((kept? s k ≡ true) × (sortedCorners t k ≡ sortedCorners t′ d))
+      go (from-kept k k< e a) = (k, k<, (e, sym (ap (sortedCorners t′) a ∙ kept-corners k k< e)))
       go (from-made f f< v a) =
           let l = old (opposite f) (opposite< f) in
           absurd (omega (arith, l, ap (λ c. corner t′ c (opposite f)) a, made-apex F f f< v (opposite f) (opposite< f) refl))
 
   -- so a cell that stands was kept
-  pub standing-kept : (c d : ℕ) → c < n → d < n′ → sortedCorners t′ d ≡ sortedCorners t c → kept? s c ≡ true
-  standing-kept c d c< d< e = go (old-cell d d< (λ i h. old i (corners-same t′ t d c e i h)))
-    where
-      old : (i : ℕ) → (j : ℕ) × (j < 4) × (corner t c j ≡ corner t′ d i) → corner t′ d i < np
-      old i (j, hj, q) = subst (λ v. v < np) q (M .corner< c j c< hj)
-
-      go : (k : ℕ) × (k < n) × ((kept? s k ≡ true) × (sortedCorners t′ d ≡ sortedCorners t k)) → kept? s c ≡ true
-      go (k, k<, (h, q)) = subst (λ x. kept? s x ≡ true) (corners-once M (F .room) k c k< c< (sym q ∙ e)) h
+  pub standing-kept : (c : ℕ) → c < n → Stands t c t′ n′ → kept? s c ≡ true
+  standing-kept c c< S =
+      let r = old-cell (S .cell) (S .cell<) (corners-below t′ t (S .cell) c (S .corners) np (λ j h. M .corner< c j c< h)) in
+      subst (λ x. kept? s x ≡ true) (corners-once M (F .room) (r .0) c (r .1) c< (r .2 .1 ∙ S .corners)) (r .2 .0)

@@ -22,7 +22,7 @@ use Rattle.mesh.proofs.Checked.{side-yes}
 use Rattle.mesh.proofs.Verdict.{passed}
 use Rattle.locate.specs.declared.Located.the-variants.{Cell, Refused as NotLocated}
 use Rattle.locate.specs.Locate.{sortedCorners, firstHolder, locateCall}
-use Rattle.locate.proofs.First.{corners-cong, corners-same}
+use Rattle.locate.proofs.First.{corners-cong, corners-below}
 use Rattle.locate.proofs.Finding.{refused, outside}
 use Rattle.cavity.specs.Answers.{Answers, sphere, handed}
 use Rattle.cavity.specs.Cavity.{inSet}
@@ -36,7 +36,8 @@ use Rattle.insertion.proofs.Refusals.{node-fits, node-accepted, node-refused, c
 use Rattle.insertion.proofs.Growing.{inserted, checks-again}
 use Rattle.insertion.proofs.Steps.{list-refused, list-begins, node-in, node-out}
 use Rattle.calls.specs.Calls.{Build, Call, by-sphere, by-answers, by-list, recordAfter, recordAfterList, insertOutcome, listOutcome, outcome, meshAfter}
-use Rattle.located.specs.Parked.{LocatedIn, OutsideCavity, Stands, StaysLocated}
+use Rattle.located.specs.Claim.{Stands}
+use Rattle.located.specs.Parked.{LocatedIn, OutsideCavity, StaysLocated}
 use Rattle.located.proofs.Theorem.{mesh-of, holder-first, is-located}
 use Rattle.located.proofs.Kept.{same-corner, old-cell, standing-kept}
 
@@ -84,13 +85,6 @@ module _ (q : Position) where
   same : (m : Mesh) (t : Tables) → Stays q m t m t
   same m t = record { box = refl; points≤ = omega arith; old-cells = λ d d< old. record { cell = d; cell< = d<; corners = refl }; corners = λ b S i h. refl }
 
-  -- corners with numbers below v, in cells with the same corners
-  below : (t t′ : Tables) (c d v : ℕ) → sortedCorners t c ≡ sortedCorners t′ d → ((i : ℕ) → i < 4 → corner t′ d i < v) → (i : ℕ) → i < 4 → corner t c i < v
-  below t t′ c d v e old i h = go (corners-same t t′ c d e i h)
-    where
-      go : (j : ℕ) × (j < 4) × (corner t′ d j ≡ corner t c i) → corner t c i < v
-      go (j, hj, q) = subst (λ x. x < v) q (old j hj)
-
   holder-old : (m : Mesh) (t : Tables) → Checked m t → inBox (m .x) (m .y) (m .z) q ≡ true → (i : ℕ) → i < 4 → corner t (firstHolder t (m .cells) q) i < m .points
   holder-old m t (w, e) b i h =
       let M = mesh-of m t w e in M .corner< (firstHolder t (m .cells) q) i (holder-first M (room-of t w) q (box-in b) .cell<) h
@@ -109,13 +103,13 @@ module _ (q : Position) where
       stood : (d : ℕ) → d < m″ .cells → ((i : ℕ) → i < 4 → corner t″ d i < m .points) → Stands t″ d t (m .cells)
       stood d d< old =
           let r = middle d d< old in
-          let k = s .old-cells (r .cell) (r .cell<) (below t′ t″ (r .cell) d (m .points) (r .corners) old) in
+          let k = s .old-cells (r .cell) (r .cell<) (corners-below t′ t″ (r .cell) d (r .corners) (m .points) old) in
           record { cell = k .cell; cell< = k .cell<; corners = k .corners ∙ r .corners }
 
       located : inBox (m .x) (m .y) (m .z) q ≡ true → Stands t (firstHolder t (m .cells) q) t″ (m″ .cells) →
           (i : ℕ) → i < 4 → corner t″ (firstHolder t″ (m″ .cells) q) i ≡ corner t (firstHolder t (m .cells) q) i
       located b S i h =
-          let r = middle (S .cell) (S .cell<) (below t″ t (S .cell) (firstHolder t (m .cells) q) (m .points) (S .corners) (holder-old m t C b)) in
+          let r = middle (S .cell) (S .cell<) (corners-below t″ t (S .cell) (firstHolder t (m .cells) q) (S .corners) (m .points) (holder-old m t C b)) in
           let e = s .corners b record { cell = r .cell; cell< = r .cell<; corners = r .corners ∙ S .corners } in
           let back = corners-cong t′ t (firstHolder t′ (m′ .cells) q) (firstHolder t (m .cells) q) e in
           s′ .corners (s .box ∙ b) record { cell = S .cell; cell< = S .cell<; corners = S .corners ∙ sym back } i h ∙ e i h
@@ -141,8 +135,8 @@ module _ (q : Position) where
     node-stays = record {
       box = refl;
       points≤ = omega arith;
-      old-cells = λ d d< old. let r = old-cell M fits M′ d d< old in record { cell = r .0; cell< = r .1; corners = sym (r .2 .1) };
-      corners = λ b S. same-corner M fits M′ q (box-in b) (standing-kept M fits M′ (firstHolder t (m .cells) q) (S .cell) (holder< b) (S .cell<) (S .corners));
+      old-cells = λ d d< old. let r = old-cell M fits M′ d d< old in record { cell = r .0; cell< = r .1; corners = r .2 .1 };
+      corners = λ b S. same-corner M fits M′ q (box-in b) (standing-kept M fits M′ (firstHolder t (m .cells) q) (holder< b) S);
     }
 
     -- located outside the corrected cavity

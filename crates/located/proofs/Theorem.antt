@@ -29,7 +29,7 @@ use Rattle.locate.proofs.Finding.{outside, found}
 use Rattle.cavity.proofs.Tests.{holds-of, holds-yes}
 use Rattle.covering.proofs.Theorem.{covering, some-holds}
 use Rattle.covering.proofs.Holders.{corners-tell-cells}
-use Rattle.located.specs.Claim.{ComesFirst, OneCell, SameCells, SameAnswer, same-refusal, same-cell}
+use Rattle.located.specs.Claim.{ComesFirst, OneCell, Stands, SameCells, SameAnswer, same-refusal, same-cell}
 
 module _ {X Y Z pc cc np n : ℕ} {t : Tables} (M : IsMesh X Y Z pc cc np n t) (R : Room pc cc t) where
   -- no two cells have the same corners
@@ -105,8 +105,7 @@ held-by-corners t t′ p c d v v′ same h = holds-yes t′ p d (unfold Holds in
 
 module _ {X Y Z pc cc np n X′ Y′ Z′ pc′ cc′ np′ n′ : ℕ} {t t′ : Tables} (M : IsMesh X Y Z pc cc np n t) (R : Room pc cc t)
     (M′ : IsMesh X′ Y′ Z′ pc′ cc′ np′ n′ t′) (R′ : Room pc′ cc′ t′) (points : (v : ℕ) → v < np → point t′ v ≡ point t v)
-    (there : (c : ℕ) → c < n → (d : ℕ) × (d < n′) × (sortedCorners t′ d ≡ sortedCorners t c))
-    (back : (d : ℕ) → d < n′ → (c : ℕ) × (c < n) × (sortedCorners t c ≡ sortedCorners t′ d)) where
+    (there : (c : ℕ) → c < n → Stands t c t′ n′) (back : (d : ℕ) → d < n′ → Stands t′ d t n) where
   module _ (c d : ℕ) (lc : c < n) (ld : d < n′) (e : sortedCorners t′ d ≡ sortedCorners t c) where
     placed-there : (i : ℕ) → i < 4 → (j : ℕ) × (j < 4) × (cornerAt t′ d j ≡ cornerAt t c i)
     unfolding cornerAt
@@ -131,22 +130,20 @@ module _ {X Y Z pc cc np n X′ Y′ Z′ pc′ cc′ np′ n′ : ℕ} {t t′ 
   same-first p c d ld e f = record {
     cell< = ld;
     holding = sym (same-holds c d (f .cell<) ld e p) ∙ f .holding;
-    before-others = λ k lk ne h. go k lk ne h (back k lk);
+    before-others = λ k lk ne h.
+        let b = back k lk in
+        let q = b .corners in
+        ap₂ lexBefore e (sym q) ∙
+        f .before-others (b .cell) (b .cell<) (λ a. ne (corners-once M′ R′ k d lk ld (sym q ∙ (ap (sortedCorners t) a ∙ sym e))))
+        (same-holds (b .cell) k (b .cell<) lk (sym q) p ∙ h);
   }
-    where
-      go : (k : ℕ) → k < n′ → k ≢ d → holds t′ p k ≡ true → (c : ℕ) × (c < n) × (sortedCorners t c ≡ sortedCorners t′ k) →
-          lexBefore (sortedCorners t′ d) (sortedCorners t′ k) ≡ true
-      go k lk ne h (b, lb, q) =
-          ap₂ lexBefore e (sym q) ∙
-          f .before-others b lb (λ a. ne (corners-once M′ R′ k d lk ld (sym q ∙ (ap (sortedCorners t) a ∙ sym e)))) (same-holds b k lb lk (sym q) p ∙ h)
 
   same-holder : (p : Position) → InBox X Y Z p → InBox X′ Y′ Z′ p → sortedCorners t′ (firstHolder t′ n′ p) ≡ sortedCorners t (firstHolder t n p)
-  same-holder p box box′ = go (there (firstHolder t n p) (holder-first M R p box .cell<))
-    where
-      go : (d : ℕ) × (d < n′) × (sortedCorners t′ d ≡ sortedCorners t (firstHolder t n p)) →
-          sortedCorners t′ (firstHolder t′ n′ p) ≡ sortedCorners t (firstHolder t n p)
-      go (d, ld, e) =
-          ap (sortedCorners t′) (first-once d (firstHolder t′ n′ p) (same-first p (firstHolder t n p) d ld e (holder-first M R p box)) (holder-first M′ R′ p box′)) ∙ e
+  same-holder p box box′ =
+      let f = holder-first M R p box in
+      let d = there (firstHolder t n p) (f .cell<) in
+      ap (sortedCorners t′)
+      (first-once (d .cell) (firstHolder t′ n′ p) (same-first p (firstHolder t n p) (d .cell) (d .cell<) (d .corners) f) (holder-first M′ R′ p box′)) ∙ d .corners
 
 -- answers of two calls that tests 1 to 3 let pass, in boxes with the same sides
 same-answer : (m m′ : Mesh) (t t′ : Tables) (w w′ : ℕ) (p : Position) → meshRefusal m t w false ≡ 0 → meshRefusal m′ t′ w′ false ≡ 0 →

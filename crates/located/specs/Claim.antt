@@ -24,11 +24,17 @@ pub record OneCell (m : Mesh) (t : Tables) (w : ℕ) (p : Position) : Type 0 whe
   pub first : ComesFirst t (m .cells) p cell
   pub only : (d : ℕ) → ComesFirst t (m .cells) p d → d ≡ cell
 
+-- one of n′ cells of t′ has the corners of cell c of t
+pub record Stands (t : Tables) (c : ℕ) (t′ : Tables) (n′ : ℕ) : Type 0 where
+  pub cell : ℕ
+  pub cell< : cell < n′
+  pub corners : sortedCorners t′ cell ≡ sortedCorners t c
+
 -- the same points, and the same cells by their corners, in any order
 pub record SameCells (m : Mesh) (t : Tables) (m′ : Mesh) (t′ : Tables) : Type 0 where
   pub points : (v : ℕ) → v < m .points → point t′ v ≡ point t v
-  pub there : (c : ℕ) → c < m .cells → (d : ℕ) × (d < m′ .cells) × (sortedCorners t′ d ≡ sortedCorners t c)
-  pub back : (d : ℕ) → d < m′ .cells → (c : ℕ) × (c < m .cells) × (sortedCorners t c ≡ sortedCorners t′ d)
+  pub there : (c : ℕ) → c < m .cells → Stands t c t′ (m′ .cells)
+  pub back : (d : ℕ) → d < m′ .cells → Stands t′ d t (m .cells)
 
 -- two answers, from the tables t and t′: the same refusal, or the same cell by its corners
 pub data SameAnswer (t t′ : Tables) : Located → Located → Type 0 where

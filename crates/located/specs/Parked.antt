@@ -8,11 +8,12 @@ use Rattle.mesh.specs.declared.Mesh.{Mesh}
 use Rattle.mesh.specs.Tables.{Tables, corner}
 use Rattle.mesh.specs.Refusal.{meshRefusal}
 use Rattle.locate.specs.declared.Located.the-variants.{Cell}
-use Rattle.locate.specs.Locate.{sortedCorners, locateCall}
+use Rattle.locate.specs.Locate.{locateCall}
 use Rattle.cavity.specs.Answers.{Answers}
 use Rattle.cavity.specs.Cavity.{inSet}
 use Rattle.insertion.specs.Insertion.{lastCavity}
 use Rattle.calls.specs.Calls.{Build, Call, meshAfter}
+use Rattle.located.specs.Claim.{Stands}
 
 -- q is located in a cell with the corners of cell c of t, each in its place
 pub record LocatedIn (t : Tables) (c : ℕ) (m′ : Mesh) (t′ : Tables) (w : ℕ) (q : Position) : Type 0 where
@@ -23,12 +24,6 @@ pub record LocatedIn (t : Tables) (c : ℕ) (m′ : Mesh) (t′ : Tables) (w : �
 -- cell c is outside the corrected cavity of p
 abbrev pub OutsideCavity : Mesh → Tables → Position → Answers → ℕ → Type 0
 OutsideCavity m t p a c = inSet (lastCavity m t p a) c ≡ false
-
--- one of n′ cells of t′ has the corners of cell c of t
-pub record Stands (t : Tables) (c : ℕ) (t′ : Tables) (n′ : ℕ) : Type 0 where
-  pub cell : ℕ
-  pub cell< : cell < n′
-  pub corners : sortedCorners t′ cell ≡ sortedCorners t c
 
 -- a locate call answered c before the calls cs; if c stands after them, a locate call that tests 1 to 3 let pass answers it
 abbrev pub StaysLocated : Build → List Call → Position → Type 0
