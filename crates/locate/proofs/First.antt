@@ -114,7 +114,7 @@ module _ (t : Tables) (p : Position) where
     first-before b l e f =
         first-new e (λ k h g. before-later (corners b) (corners c) (corners k) (corners-length t c ∙ sym (corners-length t k)) f (l .first k h g))
 
-  -- of any number of cells one leads, or none holds p
+  -- of any number of cells one is first, or none holds p
   pub first-or-none : (n : ℕ) → ((b : ℕ) × IsFirst n b) ⊎ NoneHolds n
   first-or-none zero = inr (λ k h. absurd (omega arith))
   first-or-none (suc n) = go (first-or-none n) (split (holds t p n))
@@ -146,7 +146,10 @@ module _ (t : Tables) (p : Position) where
         none = fails (anyBelow n (earlierHolder t p b)) (λ e. by (any-found n (earlierHolder t p b) e))
           where
             by : Found n (earlierHolder t p b) → ⊥
-            by r = clash (and-right (holds t p (r .at)) (lexBefore (corners (r .at)) (corners b)) (r .passes)) (l .first (r .at) (r .below) (and-left (holds t p (r .at)) (lexBefore (corners (r .at)) (corners b)) (r .passes)))
+            by r =
+                let held = holds t p (r .at) in
+                let before = lexBefore (corners (r .at)) (corners b) in
+                clash (and-right held before (r .passes)) (l .first (r .at) (r .below) (and-left held before (r .passes)))
 
         lower : (k : ℕ) → k < b → (holds t p k ≡ true) ⊎ (holds t p k ≡ false) → test k ≡ false
         lower k h (inr e) = rw e
@@ -160,7 +163,7 @@ module _ (t : Tables) (p : Position) where
     unfolding firstHolder
     holder≤ = first≤ n test
 
-    -- where some cell holds p, the answer leads
+    -- where some cell holds p, the definition's is first
     pub holder-is-first : (c : ℕ) → c < n → holds t p c ≡ true → IsFirst n (firstHolder t n p)
     holder-is-first c h e = go (first-or-none n)
       where
@@ -196,7 +199,7 @@ module _ (k : List ℕ) (c : ℕ) (b : Candidate) {key : ℕ} (e : key ≡ keyOf
   unfolding earlier
   earlier-old h = rw (fails (ltb (keyOf k) (b .key)) (λ l. omega (arith, e, ltb-true (keyOf k) (b .key) l)))
 
--- after c of n cells: the cell that leads, with its key; n and a number above all keys where none holds p
+-- after c of n cells: the first that holds p, with its key; n and a number above all keys where none does
 abbrev pub CandidateAfter : Tables → Position → ℕ → ℕ → Candidate → Type 0
 CandidateAfter t p n c b = (IsFirst t p c (b .cell) × (b .key ≡ cellKey t (b .cell))) ⊎ (NoneHolds t p c × ((b .cell ≡ n) × (b .key ≡ aboveKeys)))
 

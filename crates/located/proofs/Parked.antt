@@ -32,7 +32,7 @@ use Rattle.insertion.specs.declared.Report.{Report}
 use Rattle.insertion.specs.declared.Inserted.the-variants.{Accepted, Refused}
 use Rattle.insertion.specs.Insertion.{lastCavity, cellsMade, nodeRefusal, fewerBytes, insertedMesh, insertedTables, insertNode, insertCall}
 use Rattle.insertion.specs.List.{listedNode, listedCount, insertFrom, listCall}
-use Rattle.insertion.proofs.Refusals.{node-fits, node-accepted, node-refused, call-refused, call-is-node, accepted-node}
+use Rattle.insertion.proofs.Refusals.{MeshFor, node-fits, node-accepted, node-refused, call-refused, call-is-node, accepted-node}
 use Rattle.insertion.proofs.Growing.{inserted, checks-again}
 use Rattle.insertion.proofs.Steps.{list-refused, list-begins, node-in, node-out}
 use Rattle.calls.specs.Calls.{Build, Call, by-sphere, by-answers, by-list, recordAfter, recordAfterList, insertOutcome, listOutcome, outcome, meshAfter}
@@ -117,7 +117,7 @@ module _ (q : Position) where
   -- ---- a node
 
   module _ (m : Mesh) (t : Tables) (w : ℕ) (p : Position) (a : Answers) (e : isMesh m t w ≡ true) (z : nodeRefusal m t w p a ≡ 0) where
-    M : IsMesh (m .x) (m .y) (m .z) (pointCapacity t) (cellCapacity t w) (m .points) (m .cells) t
+    M : MeshFor m t w
     M = mesh-of m t w e
 
     fits : Fits (pointCapacity t) (cellCapacity t w) (m .points) (m .cells) t p (lastCavity m t p a)

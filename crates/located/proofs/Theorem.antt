@@ -27,6 +27,7 @@ use Rattle.locate.proofs.Order.{before-irrefl, before-trans, before-same}
 use Rattle.locate.proofs.First.{corners-length, corners-same, holder-is-first}
 use Rattle.locate.proofs.Finding.{outside, found}
 use Rattle.cavity.proofs.Tests.{holds-of, holds-yes}
+use Rattle.insertion.proofs.Refusals.{MeshFor}
 use Rattle.covering.proofs.Theorem.{covering, some-holds}
 use Rattle.covering.proofs.Holders.{corners-tell-cells}
 use Rattle.located.specs.Claim.{ComesFirst, OneCell, Stands, SameCells, SameAnswer, same-refusal, same-cell}
@@ -66,12 +67,10 @@ first-once {t} c d f g = go (ℕ-discrete d c)
         clash (before-trans (sortedCorners t c) (sortedCorners t d) (sortedCorners t c) (f .before-others d (g .cell<) ne (g .holding))
         (g .before-others c (f .cell<) (λ e. ne (sym e)) (f .holding))) (before-irrefl (sortedCorners t c))
 
-pub mesh-of : (m : Mesh) (t : Tables) (w : ℕ) → isMesh m t w ≡ true →
-    IsMesh (m .x) (m .y) (m .z) (pointCapacity t) (cellCapacity t w) (m .points) (m .cells) t
+pub mesh-of : (m : Mesh) (t : Tables) (w : ℕ) → isMesh m t w ≡ true → MeshFor m t w
 mesh-of m t w e = check-mesh (m .x) (m .y) (m .z) (pointCapacity t) (cellCapacity t w) (m .points) (m .cells) t e
 
-is-mesh : (m : Mesh) (t : Tables) (w : ℕ) → meshRefusal m t w false ≡ 0 →
-    IsMesh (m .x) (m .y) (m .z) (pointCapacity t) (cellCapacity t w) (m .points) (m .cells) t
+is-mesh : (m : Mesh) (t : Tables) (w : ℕ) → meshRefusal m t w false ≡ 0 → MeshFor m t w
 is-mesh m t w z = mesh-of m t w (passed m t w false z)
 
 pub is-located : (m : Mesh) (t : Tables) (w : ℕ) (p : Position) → meshRefusal m t w false ≡ 0 → inBox (m .x) (m .y) (m .z) p ≡ true →
