@@ -1,5 +1,5 @@
 -- Condition 3: after every list of insertion calls from a started box, the tables are a mesh and hold the accepted nodes.
-use Prim.Native.Nat.{ℕ, zero, suc, _+_, _*_, _≤_, _<_}
+use Prim.Native.Nat.{ℕ, _+_, _*_, _≤_, _<_}
 use mathlib.Core.Bool.{true, false, not, _&&_}
 use mathlib.Core.List.{List, [], _∷_, _++_, append-nil, append-assoc}
 use mathlib.Core.Logic.{_⊎_, inl, inr}
@@ -9,7 +9,7 @@ use native.Mathlib.Omega.{arith}
 use borrow.Author.Tests.{eqb-true, not-false}
 use lib.Dec.{eqb}
 use lib.ListN.{length, length-append, drop}
-use Rattle.arith.specs.Table.{fill, tabulate}
+use Rattle.arith.specs.Table.{tabulate}
 use Rattle.arith.proofs.Flags.{split, and-left, and-right}
 use Rattle.geometry.specs.declared.Position.{Position}
 use Rattle.mesh.specs.declared.Mesh.{Mesh}
@@ -20,16 +20,13 @@ use Rattle.mesh.specs.Check.{legalSide, legalBox}
 use Rattle.mesh.specs.Start.{over, startPoints, startCorners, startNeighbours, started, startedMesh, short, startRefusal, startAnswer, startTables, StartLeaves}
 use Rattle.mesh.proofs.Checked.{side-of}
 use Rattle.mesh.proofs.FirstMesh.{start-mesh}
-use Rattle.mesh.specs.Refusal.{meshRefusal}
-use Rattle.cavity.specs.Answers.{Answers, sphere, handed}
-use Rattle.insertion.specs.declared.Listed.the-variants.{Stopped, Refused as AllRefused}
-use Rattle.insertion.specs.Insertion.{nodeRefusal, insertRefusal, insertedMesh, insertedTables, insertUnless, insertCall}
-use Rattle.insertion.specs.List.{listedNode, listedCount, insertFrom, listCall}
-use Rattle.calls.specs.Calls.{Build, startBuild, Call, by-sphere, by-answers, by-list, recordAfter, recordAfterList, acceptedNode, acceptedNodes, Outcome, insertOutcome, listOutcome, outcome, meshAfter, acceptedBy, FaceStands, on-wall, shared, Claim}
-use Rattle.insertion.proofs.Refusals.{MeshFor, NodeFits, test-to-zero, node-fits, node-accepted, node-refused, call-passed}
-use Rattle.arith.proofs.Tables.{tabulate-suc, tabulate-cong}
+use Rattle.cavity.specs.Answers.{Answers}
+use Rattle.insertion.specs.Insertion.{insertedMesh}
+use Rattle.calls.specs.Calls.{Build, startBuild, Call, meshAfter, acceptedBy, FaceStands, on-wall, shared, Claim}
+use Rattle.insertion.proofs.Refusals.{MeshFor, NodeFits, test-to-zero, node-fits}
+use Rattle.arith.proofs.Tables.{tabulate-cong}
 use Rattle.insertion.proofs.Growing.{inserted-mesh, inserted-points}
-use Rattle.insertion.proofs.Steps.{list-refused, list-begins, node-in, node-out}
+use Rattle.calls.proofs.EachNode.{built, KeptBy, calls-keep}
 
 -- ---- capacities
 
@@ -48,9 +45,6 @@ three-a-cell t w k h l = omega arith
 
 -- ---- what every call keeps
 
-abbrev built : Mesh → Tables → Build
-built m t = record { mesh = m; tables = t }
-
 record Kept (X Y Z : ℕ) (b : Build) (ps : List Position) : Type 0 where
   sideX : b .mesh .x ≡ X
   sideY : b .mesh .y ≡ Y
@@ -58,102 +52,21 @@ record Kept (X Y Z : ℕ) (b : Build) (ps : List Position) : Type 0 where
   mesh : MeshFor (b .mesh) (b .tables) ample
   points : tabulate (b .mesh .points) (point (b .tables)) ≡ tabulate 8 (boxCorner X Y Z) ++ ps
 
--- an outcome keeps all that, with the nodes ps accepted before
-abbrev Keeps : ℕ → ℕ → ℕ → List Position → Outcome → Type 0
-Keeps X Y Z ps o = Kept X Y Z (o .after) (ps ++ o .accepted)
-
-module _ {X Y Z : ℕ} where
-  -- nothing is accepted and nothing changes
-  same-kept : (b : Build) (ps : List Position) → Kept X Y Z b ps → Kept X Y Z b (ps ++ [])
-  same-kept b ps K = subst (Kept X Y Z b) (sym (append-nil ps)) K
-
-  module _ (m : Mesh) (t : Tables) (w : ℕ) (p : Position) (a : Answers) (ps : List Position) (K : Kept X Y Z (built m t) ps) where
-    node-kept : nodeRefusal m t w p a ≡ 0 → Kept X Y Z (built (insertedMesh m t p a) (insertedTables m t p a)) (ps ++ (p ∷ []))
-    unfolding insertedMesh
-    node-kept e = record {
-      sideX = K .sideX;
-      sideY = K .sideY;
-      sideZ = K .sideZ;
-      mesh = inserted-mesh m t ample w p a (K .mesh) fits (ample-most t w);
-      points =
-          inserted-points m t ample w p a (K .mesh) fits (ample-most t w) ∙
-          (ap (λ l. l ++ (p ∷ [])) (K .points) ∙ append-assoc (tabulate 8 (boxCorner X Y Z)) ps (p ∷ []));
-    }
-      where
-        fits : NodeFits m t w p a
-        fits = node-fits m t w p a e
-
-    insert-keeps : Keeps X Y Z ps (insertOutcome m p (insertCall m t w p a))
-    unfolding insertOutcome insertCall insertUnless recordAfter acceptedNode
-    insert-keeps = go (split (eqb (insertRefusal m t w p a) 0))
-      where
-        go : (eqb (insertRefusal m t w p a) 0 ≡ true) ⊎ (eqb (insertRefusal m t w p a) 0 ≡ false) → Keeps X Y Z ps (insertOutcome m p (insertCall m t w p a))
-        go (inl e) = rw e (node-kept (call-passed m t w p a (eqb-true (insertRefusal m t w p a) 0 e) .1))
-        go (inr e) = rw e (same-kept (built m t) ps K)
-
-  -- m₀ is the record that the list call was given
-  module _ (m₀ : Mesh) (w : ℕ) (ns : List ℕ) (ps : List Position) where
-    -- k nodes from place i on, with those before i accepted
-    nodes-keep : (k i : ℕ) (m : Mesh) (t : Tables) → i + k ≡ listedCount ns → Kept X Y Z (built m t) (ps ++ tabulate i (listedNode ns)) →
-        Keeps X Y Z ps (listOutcome m₀ ns (insertFrom k i m t w ns))
-    nodes-keep zero i m t e K =
-        unfold insertFrom listOutcome recordAfterList acceptedNodes in
-        let q : i ≡ listedCount ns = omega arith in subst (λ n. Kept X Y Z (built m t) (ps ++ tabulate n (listedNode ns))) q K
-    nodes-keep (suc k) i m t e K = go (nodes-keep k (suc i) m′ t′ (omega arith)) (ℕ-discrete (nodeRefusal m t w p sphere) 0)
-      where
-        p : Position
-        p = listedNode ns i
-
-        m′ : Mesh
-        m′ = insertedMesh m t p sphere
-
-        t′ : Tables
-        t′ = insertedTables m t p sphere
-
-        more : ps ++ tabulate i (listedNode ns) ++ (p ∷ []) ≡ ps ++ tabulate (suc i) (listedNode ns)
-        more = append-assoc ps (tabulate i (listedNode ns)) (p ∷ []) ∙ ap (λ l. ps ++ l) (sym (tabulate-suc i (listedNode ns)))
-
-        stopped : (e : ℕ) → Keeps X Y Z ps (listOutcome m₀ ns record { answer = Stopped m i e; tables = t })
-        stopped e = unfold listOutcome recordAfterList acceptedNodes in K
-
-        go : (Kept X Y Z (built m′ t′) (ps ++ tabulate (suc i) (listedNode ns)) → Keeps X Y Z ps (listOutcome m₀ ns (insertFrom k (suc i) m′ t′ w ns))) →
-            Dec (nodeRefusal m t w p sphere ≡ 0) → Keeps X Y Z ps (listOutcome m₀ ns (insertFrom (suc k) i m t w ns))
-        go rest (yes h) =
-            subst (λ l. Keeps X Y Z ps (listOutcome m₀ ns l)) (sym (node-in m t w ns i k (node-accepted m t w p sphere h)))
-            (rest (subst (Kept X Y Z (built m′ t′)) more (node-kept m t w p sphere (ps ++ tabulate i (listedNode ns)) K h)))
-        go rest (no h) =
-            subst (λ l. Keeps X Y Z ps (listOutcome m₀ ns l)) (sym (node-out m t w ns i k (node-refused m t w p sphere refl h)))
-            (stopped (nodeRefusal m t w p sphere))
-
-  list-keeps : (m : Mesh) (t : Tables) (w : ℕ) (ns : List ℕ) (ps : List Position) → Kept X Y Z (built m t) ps →
-      Keeps X Y Z ps (listOutcome m ns (listCall m t w ns))
-  list-keeps m t w ns ps K = go (ℕ-discrete (meshRefusal m t w false) 0)
-    where
-      none-yet : Kept X Y Z (built m t) (ps ++ tabulate 0 (listedNode ns))
-      none-yet = unfold tabulate fill in same-kept (built m t) ps K
-
-      refused : (e : ℕ) → Keeps X Y Z ps (listOutcome m ns record { answer = AllRefused e; tables = t })
-      refused e = unfold listOutcome recordAfterList acceptedNodes in same-kept (built m t) ps K
-
-      go : Dec (meshRefusal m t w false ≡ 0) → Keeps X Y Z ps (listOutcome m ns (listCall m t w ns))
-      go (yes h) =
-          subst (λ l. Keeps X Y Z ps (listOutcome m ns l)) (sym (list-begins m t w ns h))
-          (nodes-keep m w ns ps (listedCount ns) 0 m t (omega arith) none-yet)
-      go (no h) = subst (λ l. Keeps X Y Z ps (listOutcome m ns l)) (sym (list-refused m t w ns refl h)) (refused (meshRefusal m t w false))
-
-  call-keeps : (b : Build) (c : Call) (ps : List Position) → Kept X Y Z b ps → Keeps X Y Z ps (outcome b c)
-  unfolding outcome
-  call-keeps b (by-sphere w p) ps K = insert-keeps (b .mesh) (b .tables) w p sphere ps K
-  call-keeps b (by-answers w bytes p) ps K = insert-keeps (b .mesh) (b .tables) w p (handed bytes) ps K
-  call-keeps b (by-list w ns) ps K = list-keeps (b .mesh) (b .tables) w ns ps K
-
-  calls-keep : (b : Build) (cs : List Call) (ps : List Position) → Kept X Y Z b ps → Kept X Y Z (meshAfter b cs) (ps ++ acceptedBy b cs)
-  unfolding meshAfter acceptedBy
-  calls-keep b [] ps K = same-kept b ps K
-  calls-keep b (c ∷ cs) ps K =
-      let o = outcome b c in
-      subst (Kept X Y Z (meshAfter (o .after) cs)) (append-assoc ps (o .accepted) (acceptedBy (o .after) cs))
-      (calls-keep (o .after) cs (ps ++ o .accepted) (call-keeps b c ps K))
+-- a node that any answers accept
+node-kept : {X Y Z : ℕ} (a : Answers) → KeptBy (Kept X Y Z) a
+unfolding insertedMesh
+node-kept {X} {Y} {Z} a m t w p ps M e K = record {
+  sideX = K .sideX;
+  sideY = K .sideY;
+  sideZ = K .sideZ;
+  mesh = inserted-mesh m t ample w p a (K .mesh) fits (ample-most t w);
+  points =
+      inserted-points m t ample w p a (K .mesh) fits (ample-most t w) ∙
+      (ap (λ l. l ++ (p ∷ [])) (K .points) ∙ append-assoc (tabulate 8 (boxCorner X Y Z)) ps (p ∷ []));
+}
+  where
+    fits : NodeFits m t w p a
+    fits = node-fits m t w p a e
 
 -- ---- the claim
 
@@ -241,7 +154,7 @@ module _ (X Y Z : ℕ) (t : Tables) where
 pub every-list-of-calls : (X Y Z : ℕ) (t : Tables) (w : ℕ) → startRefusal X Y Z t w ≡ 0 → (cs : List Call) →
     let b = startBuild X Y Z t w in Claim X Y Z (meshAfter b cs) (acceptedBy b cs)
 every-list-of-calls X Y Z t w e cs =
-    kept-claim (meshAfter b cs) (acceptedBy b cs) (calls-keep b cs [] start)
+    kept-claim (meshAfter b cs) (acceptedBy b cs) (calls-keep (Kept X Y Z) node-kept b cs [] start)
   where
     b : Build
     b = startBuild X Y Z t w

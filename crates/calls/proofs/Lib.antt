@@ -1,2 +1,3 @@
 -- Condition 3 of acceptance.
+pub mod EachNode
 pub mod Calls

@@ -8,8 +8,8 @@ use native.Mathlib.Decide.{ℕ-discrete}
 use lib.IntN.{ℤ, pos, _+ℤ_, _-ℤ_, _*ℤ_, zero-*ℤ, +ℤ-idr}
 use lib.Signed.{_<ℤ_, _≤ℤ_}
 use Rattle.arith.specs.Table.{sum}
-use Rattle.arith.proofs.Order.{arithℤ, <→≤, ≡→≤, cancel-zero}
-use Rattle.arith.proofs.Ring.{var, con, _⊕_, _⊗_, ring}
+use Rattle.arith.proofs.Order.{arithℤ, <→≤, ≡→≤, <-irrefl, ≤-<-trans, cancel-zero}
+use Rattle.arith.proofs.Ring.{var, con, _⊕_, _⊖_, _⊗_, ring}
 use Rattle.arith.proofs.Combine.{nonneg, times, term, done}
 use Rattle.arith.proofs.Sums.{sum-pos}
 use Rattle.geometry.specs.Volume.{replaced}
@@ -22,8 +22,10 @@ use Rattle.mesh.proofs.Held.{side-at}
 use Rattle.covering.specs.Place.{Place, InBoxAt}
 use Rattle.covering.specs.Holders.{Chain, here, step}
 use Rattle.covering.proofs.Linear.{placed, form, HoldsForm, InsideForm, mix, form-mix, form-whole}
-use Rattle.covering.proofs.Avoid.{Avoids, avoid}
-use Rattle.covering.proofs.Walk.{cut, cut-mix, Generic, Walks, walk-from}
+use Rattle.covering.proofs.Avoid.{Linear, Avoids, avoid}
+use Rattle.covering.proofs.Fields.{blend, form-field}
+use Rattle.covering.proofs.Walk.{cut, Generic, Leaves, Walks, Walked, arrived, first-left, second-left, walk-from}
+use Rattle.covering.proofs.Walls.{wall-inner-form}
 
 -- ---- a cell's own corners
 
@@ -38,37 +40,44 @@ module _ (t : Tables) (c : ℕ) where
       volume-zero (replaced (cornerAt t c) j (cornerAt t c i)) i j hi hj d
       (replaced-other (cornerAt t c) j (cornerAt t c i) i d ∙ sym (replaced-same (cornerAt t c) j (cornerAt t c i))))
 
-  cut-own : (q : Place) (i j : ℕ) → i < 4 → j < 4 → i ≢ j → cut t q c i j (placed t c i) ≡ cellVolume t c *ℤ form t q (4 * c + j)
+  cut-own : (q : ℕ → ℤ) (i j : ℕ) → i < 4 → j < 4 → i ≢ j → cut q c i j (form t (placed t c i)) ≡ cellVolume t c *ℤ q (4 * c + j)
   cut-own q i j hi hj d =
-      ap₂ (λ u v. u *ℤ form t q (4 * c + j) -ℤ v *ℤ form t q (4 * c + i)) (form-own i hi) (form-off i j hi hj d) ∙
-      (ap (λ u. cellVolume t c *ℤ form t q (4 * c + j) -ℤ u) (zero-*ℤ (form t q (4 * c + i))) ∙ +ℤ-idr (cellVolume t c *ℤ form t q (4 * c + j)))
+      ap₂ (λ u v. u *ℤ q (4 * c + j) -ℤ v *ℤ q (4 * c + i)) (form-own i hi) (form-off i j hi hj d) ∙
+      (ap (λ u. cellVolume t c *ℤ q (4 * c + j) -ℤ u) (zero-*ℤ (q (4 * c + i))) ∙ +ℤ-idr (cellVolume t c *ℤ q (4 * c + j)))
 
 -- ---- F2: near a given place, one from which the line to q meets no two planes of a cell at once
 
-pub record Start (t : Tables) (n : ℕ) (q x₀ x : Place) : Type 0 where
-  pub generic : Generic t n q x
+pub record Start (t : Tables) (n : ℕ) (q : ℕ → ℤ) (x₀ x : Place) : Type 0 where
+  pub generic : Generic n q (form t x)
   pub near : (c : ℕ) → c < n → InsideForm t x₀ c → InsideForm t x c
   pub below : (f : ℕ) → f < 4 * n → form t x₀ f <ℤ pos 0 → form t x f <ℤ pos 0
 
-module _ {X Y Z pc cc np n : ℕ} {t : Tables} (M : IsMesh X Y Z pc cc np n t) (q : Place) where
+module _ {X Y Z pc cc np n : ℕ} {t : Tables} (M : IsMesh X Y Z pc cc np n t) (q : ℕ → ℤ) where
+  cut-mix : (c i j : ℕ) → Linear (λ x. cut q c i j (form t x))
+  cut-mix c i j m p k r =
+      ap₂ (λ u v. u *ℤ q (4 * c + j) -ℤ v *ℤ q (4 * c + i)) (form-mix t m p k r (4 * c + i)) (form-mix t m p k r (4 * c + j)) ∙
+      ring ((var 0 ⊗ var 1 ⊕ var 2 ⊗ var 3) ⊗ var 4 ⊖ (var 0 ⊗ var 5 ⊕ var 2 ⊗ var 6) ⊗ var 7)
+      (var 0 ⊗ (var 1 ⊗ var 4 ⊖ var 5 ⊗ var 7) ⊕ var 2 ⊗ (var 3 ⊗ var 4 ⊖ var 6 ⊗ var 7)) tt
+      (pos m ∷ form t p (4 * c + i) ∷ pos k ∷ form t r (4 * c + i) ∷ q (4 * c + j) ∷ form t p (4 * c + j) ∷ form t r (4 * c + j) ∷ q (4 * c + i) ∷ [])
+
   abbrev plane : ℕ → Place → ℤ
-  plane κ = cut t q (κ / 16) (κ / 4 % 4) (κ % 4)
+  plane κ x = cut q (κ / 16) (κ / 4 % 4) (κ % 4) (form t x)
 
   abbrev tip : ℕ → Place
   tip κ = placed t (κ / 16) (κ / 4 % 4)
 
   pub start : (x₀ : Place) → (x : Place) × Start t n q x₀ x
   start x₀ =
-      go (avoid (4 * n) (λ f x. form t x f) (λ f m p k r. form-mix t m p k r f) plane (λ κ. cut-mix t q (κ / 16) (κ / 4 % 4) (κ % 4)) tip (16 * n) x₀)
+      go (avoid (4 * n) (λ f x. form t x f) (λ f m p k r. form-mix t m p k r f) plane (λ κ. cut-mix (κ / 16) (κ / 4 % 4) (κ % 4)) tip (16 * n) x₀)
     where
-      go : (x : Place) × Avoids (4 * n) (λ f x. form t x f) (λ f m p k r. form-mix t m p k r f) plane (λ κ. cut-mix t q (κ / 16) (κ / 4 % 4) (κ % 4)) tip (16 * n) x₀ x →
+      go : (x : Place) × Avoids (4 * n) (λ f x. form t x f) (λ f m p k r. form-mix t m p k r f) plane (λ κ. cut-mix (κ / 16) (κ / 4 % 4) (κ % 4)) tip (16 * n) x₀ x →
           (x : Place) × Start t n q x₀ x
       go (x, A) = (x, record { generic = gen; near = λ c l i k h. A .keeps (4 * c + k) (omega arith) (i k h); below = A .keeps-below })
         where
-          gen : Generic t n q x
+          gen : Generic n q (form t x)
           gen c i j l hi hj d z e =
               A .off κ (omega arith)
-              (λ u. z (cancel-zero {a = cellVolume t c} (form t q (4 * c + j)) (M .positive c l) (sym (cut-own t c q i j hi hj d) ∙ (sym (at (placed t c i)) ∙ (ap (λ y. plane κ y) (sym tip-is) ∙ u)))))
+              (λ u. z (cancel-zero {a = cellVolume t c} (q (4 * c + j)) (M .positive c l) (sym (cut-own t c q i j hi hj d) ∙ (sym (at (placed t c i)) ∙ (ap (λ y. plane κ y) (sym tip-is) ∙ u)))))
               (at x ∙ e)
             where
               κ : ℕ
@@ -83,8 +92,8 @@ module _ {X Y Z pc cc np n : ℕ} {t : Tables} (M : IsMesh X Y Z pc cc np n t) (
               κj : κ % 4 ≡ j
               κj = omega arith
 
-              at : (y : Place) → plane κ y ≡ cut t q c i j y
-              at y = λ ι. cut t q (κc ι) (κi ι) (κj ι) y
+              at : (y : Place) → plane κ y ≡ cut q c i j (form t y)
+              at y = λ ι. cut q (κc ι) (κi ι) (κj ι) (form t y)
 
               tip-is : tip κ ≡ placed t c i
               tip-is = λ ι. placed t (κc ι) (κi ι)
@@ -146,18 +155,32 @@ module _ {X Y Z pc cc np n : ℕ} {t : Tables} (M : IsMesh X Y Z pc cc np n t) w
       each i hi (no d) = ≡→≤ (sym (form-off t c i k hi h d))
 
   module _ (R : Room pc cc t) where
-    -- two cells strictly around one place: from each a chain to a cell that holds q, and these differ if the two do
-    pub two-walks : (q : Place) → InBoxAt X Y Z q → (x : Place) (c₁ c₂ : ℕ) → c₁ < n → c₂ < n → InsideForm t x c₁ → InsideForm t x c₂ → Walks t n q (λ p. Unit {0}) c₁ c₂
-    two-walks q box x₀ c₁ c₂ l₁ l₂ i₁ i₂ = go (start M q x₀)
+    -- to a place of the box no walk leaves it
+    pub walk-to : (q : Place) → InBoxAt X Y Z q → (Way : (ℕ → ℤ) → Type 0) →
+        ((a : ℤ) (p : ℕ → ℤ) (b : ℤ) → pos 0 <ℤ a → pos 0 ≤ℤ b → Way p → Way (blend a p b (form t q))) → (x : Place) → Way (form t x) → Generic n (form t q) (form t x) →
+        (c₁ c₂ : ℕ) → c₁ < n → c₂ < n → InsideForm t x c₁ → InsideForm t x c₂ → Walks t n (form t q) Way c₁ c₂
+    walk-to q box Way on x w gen c₁ c₂ l₁ l₂ i₁ i₂ = go (walk-from M R (form t q) (form-field M R q) Way on (form t x) (form-field M R x) w gen c₁ c₂ l₁ l₂ i₁ i₂)
       where
-        go : (x : Place) × Start t n q x₀ x → Walks t n q (λ p. Unit {0}) c₁ c₂
-        go (x, S) = walk-from M R q box (λ p. Unit {0}) (λ m p k h w. tt) x tt (S .generic) c₁ c₂ l₁ l₂ (S .near c₁ l₁ i₁) (S .near c₂ l₂ i₂)
+        never : {c : ℕ} → Leaves t n (form t q) c → ⊥
+        never L = <-irrefl (≤-<-trans (wall-inner-form M (4 * L .end + L .wall) (omega (arith, L .end<, L .wall<)) (L .bare) q box) (L .beyond))
+
+        go : Walked t n (form t q) Way c₁ c₂ → Walks t n (form t q) Way c₁ c₂
+        go (arrived W) = W
+        go (first-left L) = absurd (never L)
+        go (second-left L) = absurd (never L)
+
+    -- two cells strictly around one place: from each a chain to a cell that holds q, and these differ if the two do
+    pub two-walks : (q : Place) → InBoxAt X Y Z q → (x : Place) (c₁ c₂ : ℕ) → c₁ < n → c₂ < n → InsideForm t x c₁ → InsideForm t x c₂ → Walks t n (form t q) (λ p. Unit {0}) c₁ c₂
+    two-walks q box x₀ c₁ c₂ l₁ l₂ i₁ i₂ = go (start M (form t q) x₀)
+      where
+        go : (x : Place) × Start t n (form t q) x₀ x → Walks t n (form t q) (λ p. Unit {0}) c₁ c₂
+        go (x, S) = walk-to q box (λ p. Unit {0}) (λ a p b h k w. tt) x tt (S .generic) c₁ c₂ l₁ l₂ (S .near c₁ l₁ i₁) (S .near c₂ l₂ i₂)
 
     -- F4: THE STRAIGHT WALK
     pub straight-walk : (q : Place) → InBoxAt X Y Z q → (c : ℕ) → c < n → Reached t n q c
     straight-walk q box c l = go (two-walks q box (middle t c) c c l l (middle-inside c l) (middle-inside c l))
       where
-        go : Walks t n q (λ p. Unit {0}) c c → Reached t n q c
+        go : Walks t n (form t q) (λ p. Unit {0}) c c → Reached t n q c
         go L = record { cell = L .end₁; cell< = L .end₁<; chain = chain-map (λ c k x. x .separates) (L .chain); holds = L .holds₁ }
 
     -- NOWHERE UNCOVERED

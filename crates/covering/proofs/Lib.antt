@@ -2,7 +2,9 @@
 -- (Parts); then the theorem, what follows from it, and what it takes.
 pub mod Linear
 pub mod Avoid
+pub mod Fields
 pub mod Walk
+pub mod Walls
 pub mod Cover
 pub mod Closed
 pub mod Labels

@@ -22,7 +22,7 @@ use Rattle.mesh.specs.Tables.{Tables, corner, cornerAt, cellVolume}
 use Rattle.mesh.specs.Mesh.{IsMesh}
 use Rattle.mesh.proofs.Room.{Room}
 use Rattle.covering.specs.Place.{Place, whole, InBoxAt}
-use Rattle.covering.proofs.Linear.{placed, rowVolume, replacedRow, HoldsForm, InsideForm, row, r₄, env₄, sixₑ, lin, linₑ, between, form-at, volume-at}
+use Rattle.covering.proofs.Linear.{form, placed, rowVolume, replacedRow, HoldsForm, InsideForm, row, r₄, env₄, sixₑ, lin, linₑ, between, form-at, volume-at}
 use Rattle.covering.proofs.Walk.{Walks}
 use Rattle.covering.proofs.Cover.{two-walks}
 use Rattle.covering.proofs.Closed.{sumOf}
@@ -407,7 +407,7 @@ module _ {X Y Z pc cc np n : ℕ} {t : Tables} (M : IsMesh X Y Z pc cc np n t) (
       a : ℕ
       a = X * (b + Z + 1) + Y * (Z + 1) + Z
 
-      go : Walks t n (target X Y Z a b Z) (λ p. Unit {0}) c₁ c₂ → c₁ ≡ c₂
+      go : Walks t n (form t (target X Y Z a b Z)) (λ p. Unit {0}) c₁ c₂ → c₁ ≡ c₂
       go L = by (ℕ-discrete (L .end₁) (L .end₂))
         where
           one : (c : ℕ) → c < n → HoldsForm t (target X Y Z a b Z) c → labelsVolume c ≡ pos 1

@@ -23,8 +23,9 @@ use Rattle.covering.specs.Place.{Place, InBoxAt, sideAt}
 use Rattle.covering.specs.Holders.{Chain, here, step, FaceHolds}
 use Rattle.covering.proofs.Linear.{placed, form, HoldsForm, InsideForm, mix, form-mix, form-whole, form-between, mate-opposite-form}
 use Rattle.covering.proofs.Avoid.{overAll, over-each, outweighs, outweighs-neg}
-use Rattle.covering.proofs.Walk.{Visited, Crosses, Walks, walk-from}
-use Rattle.covering.proofs.Cover.{Start, start, middle, middle-inside, form-own, form-off}
+use Rattle.covering.proofs.Fields.{InsideBy, blend}
+use Rattle.covering.proofs.Walk.{Visited, Crosses, Walks}
+use Rattle.covering.proofs.Cover.{Start, start, walk-to, middle, middle-inside, form-own, form-off}
 use Rattle.covering.proofs.Once.{once}
 use Rattle.covering.proofs.Parts.{whole-in-box, holds-form, plane-form}
 
@@ -40,8 +41,8 @@ add-pos N u w h k =
     let b : pos 0 <ℤ (pos 1 *ℤ w) = *-pos {a = pos 1} {b = w} (omega arithℤ) k in
     omega (arithℤ, parts-add (pos N *ℤ u) (pos 1 *ℤ w))
 
-add-neg : (m k : ℕ) (u w : ℤ) → 1 ≤ m → u <ℤ pos 0 → w <ℤ pos 0 → (pos m *ℤ u +ℤ pos k *ℤ w) <ℤ pos 0
-add-neg m k u w h a b = +-neg (*-neg-r {a = pos m} {b = u} (omega arithℤ) a) (*-nonpos-r {a = pos k} {b = w} (omega arithℤ) (<→≤ b))
+add-neg : {a b u w : ℤ} → pos 0 <ℤ a → pos 0 ≤ℤ b → u <ℤ pos 0 → w <ℤ pos 0 → (a *ℤ u +ℤ b *ℤ w) <ℤ pos 0
+add-neg ha hb h k = +-neg (*-neg-r ha h) (*-nonpos-r hb (<→≤ k))
 
 module _ (X Y Z : ℕ) where
   mix-box : (m : ℕ) (p q : Place) → InBoxAt X Y Z p → InBoxAt X Y Z q → InBoxAt X Y Z (mix m p 1 q)
@@ -81,10 +82,10 @@ module _ {X Y Z pc cc np n : ℕ} {t : Tables} (M : IsMesh X Y Z pc cc np n t) (
 
   module _ (q : Place) (box : InBoxAt X Y Z q) where
     -- beyond every face that q is beyond
-    abbrev Way : Place → Type 0
-    Way p = (f : ℕ) → f < 4 * n → form t q f <ℤ pos 0 → form t p f <ℤ pos 0
+    abbrev Way : (ℕ → ℤ) → Type 0
+    Way p = (f : ℕ) → f < 4 * n → form t q f <ℤ pos 0 → p f <ℤ pos 0
 
-    way-holds : (p : Place) (c : ℕ) → c < n → Way p → InsideForm t p c → HoldsForm t q c
+    way-holds : (p : ℕ → ℤ) (c : ℕ) → c < n → Way p → InsideBy p c → HoldsForm t q c
     way-holds p c l w i k h = by (total (pos 0) (form t q (4 * c + k)))
       where
         by : (pos 0 ≤ℤ form t q (4 * c + k)) ⊎ (form t q (4 * c + k) <ℤ pos 0) → pos 0 ≤ℤ form t q (4 * c + k)
@@ -109,14 +110,14 @@ module _ {X Y Z pc cc np n : ℕ} {t : Tables} (M : IsMesh X Y Z pc cc np n t) (
         up {z} h = omega (arithℤ, parts-neg z)
 
     -- the first cell of a walk
-    first-visited : {r : Place} {c d : ℕ} → Chain t n (Crosses t r Way) c d → Visited t Way d → Visited t Way c
+    first-visited : {r : ℕ → ℤ} {c d : ℕ} → Chain t n (Crosses r Way) c d → Visited Way d → Visited Way c
     first-visited here s = s
     first-visited (step k h x u v) s = x .from
 
-    visited-holds : (c : ℕ) → c < n → Visited t Way c → HoldsForm t q c
+    visited-holds : (c : ℕ) → c < n → Visited Way c → HoldsForm t q c
     visited-holds c l s = way-holds (s .place) c l (s .way) (s .inside)
 
-    linked : {r : Place} {c d : ℕ} → c < n → Chain t n (Crosses t r Way) c d → Visited t Way d → Chain t n (FaceHolds t q) c d
+    linked : {r : ℕ → ℤ} {c d : ℕ} → c < n → Chain t n (Crosses r Way) c d → Visited Way d → Chain t n (FaceHolds t q) c d
     linked l here s = here
     linked l (step {c} k h x u v) s =
         step k h
@@ -135,7 +136,7 @@ module _ {X Y Z pc cc np n : ℕ} {t : Tables} (M : IsMesh X Y Z pc cc np n t) (
 
     -- CELLS THAT HOLD ONE PLACE ARE LINKED THROUGH FACES THAT HOLD IT
     pub around : (c d : ℕ) → c < n → d < n → HoldsForm t q c → HoldsForm t q d → Chain t n (FaceHolds t q) c d
-    around c d lc ld hc hd = go (start M far near)
+    around c d lc ld hc hd = go (start M (form t far) near)
       where
         N : ℕ
         N = overAll (4 * n) (form t (middle t c)) + overAll (4 * n) (form t (middle t d))
@@ -149,19 +150,19 @@ module _ {X Y Z pc cc np n : ℕ} {t : Tables} (M : IsMesh X Y Z pc cc np n t) (
         inside : (e : ℕ) → e < n → HoldsForm t q e → InsideForm t (mix N q 1 (middle t e)) e
         inside e l h k i = subst (λ z. pos 0 <ℤ z) (sym (form-mix t N q 1 (middle t e) (4 * e + k))) (add-pos N (form t q (4 * e + k)) (form t (middle t e) (4 * e + k)) (h k i) (middle-inside M e l k i))
 
-        way-near : Way near
+        way-near : Way (form t near)
         way-near f f< h = subst (λ z. z <ℤ pos 0) (sym (form-mix t N q 1 (middle t c) f)) (outweighs-neg N (form t q f) (form t (middle t c) f) (omega (arith, over-each (4 * n) (form t (middle t c)) f f<)) h)
 
-        way-far : Way far
+        way-far : Way (form t far)
         way-far f f< h = subst (λ z. z <ℤ pos 0) (sym (form-mix t N q 1 (middle t d) f)) (outweighs-neg N (form t q f) (form t (middle t d) f) (omega (arith, over-each (4 * n) (form t (middle t d)) f f<)) h)
 
-        on : (m : ℕ) (p : Place) (k : ℕ) → 1 ≤ m → Way p → Way (mix m p k far)
-        on m p k h w f f< z = subst (λ z. z <ℤ pos 0) (sym (form-mix t m p k far f)) (add-neg m k (form t p f) (form t far f) h (w f f< z) (way-far f f< z))
+        on : (a : ℤ) (p : ℕ → ℤ) (b : ℤ) → pos 0 <ℤ a → pos 0 ≤ℤ b → Way p → Way (blend a p b (form t far))
+        on a p b h k w f f< z = add-neg h k (w f f< z) (way-far f f< z)
 
-        go : (x : Place) × Start t n far near x → Chain t n (FaceHolds t q) c d
-        go (x, S) = by (walk-from M R far (mix-box X Y Z N q (middle t d) box (middle-box d ld)) Way on x (λ f f< z. S .below f f< (way-near f f< z)) (S .generic) c c lc lc (S .near c lc (inside c lc hc)) (S .near c lc (inside c lc hc)))
+        go : (x : Place) × Start t n (form t far) near x → Chain t n (FaceHolds t q) c d
+        go (x, S) = by (walk-to M R far (mix-box X Y Z N q (middle t d) box (middle-box d ld)) Way on x (λ f f< z. S .below f f< (way-near f f< z)) (S .generic) c c lc lc (S .near c lc (inside c lc hc)) (S .near c lc (inside c lc hc)))
           where
-            by : Walks t n far Way c c → Chain t n (FaceHolds t q) c d
+            by : Walks t n (form t far) Way c c → Chain t n (FaceHolds t q) c d
             by L = subst (λ e. Chain t n (FaceHolds t q) c e) (held-inside far (L .end₁) d (L .end₁<) ld (L .holds₁) (inside d ld hd)) (linked lc (L .chain) (L .last))
 
   -- ---- the same values

@@ -156,6 +156,16 @@ module _ (m : Mesh) (t : Tables) (w : ℕ) (p : Position) (a : Answers) where
           let f : Accepted m′ r ≡ Refused (nodeRefusal m t w p a) = e ∙ ap (λ l. l .answer) (node-refused refl h) in
           let z : _≡_ {A = ℕ} 0 1 = cc in absurd (omega arith)
 
+  -- of a call: tests 1 to 3 let it pass
+  pub accepted-call : {m′ : Mesh} {r : Report} → Accepted m′ r ≡ insertCall m t w p a .answer → firstThree ≡ 0
+  accepted-call {m′} {r} e = go (ℕ-discrete firstThree 0)
+    where
+      go : Dec (firstThree ≡ 0) → firstThree ≡ 0
+      go (yes h) = h
+      go (no h) =
+          let f : Accepted m′ r ≡ Refused firstThree = e ∙ ap (λ l. l .answer) (call-refused refl h) in
+          let z : _≡_ {A = ℕ} 0 1 = cc in absurd (omega arith)
+
   -- an answer without one: the number is the refusal's
   pub refused-number : {e : ℕ} → Refused e ≡ insertNode m t w p a .answer → nodeRefusal m t w p a ≡ e
   refused-number {e} q = go (ℕ-discrete (nodeRefusal m t w p a) 0)

@@ -1,7 +1,7 @@
 -- The parked head: over one node, one insertion call, every list of calls.
-use Prim.Native.Nat.{ℕ, zero, suc, _+_, _≤_, _<_}
+use Prim.Native.Nat.{ℕ, _+_, _≤_, _<_}
 use mathlib.Core.Bool.{true, false, not}
-use mathlib.Core.List.{List, [], _∷_}
+use mathlib.Core.List.{List, []}
 use mathlib.Core.Logic.{_⊎_, inl, inr}
 use mathlib.Core.Path.{_≡_, refl, sym, ap, _∙_, subst}
 use native.Mathlib.Decide.{ℕ-discrete}
@@ -24,18 +24,17 @@ use Rattle.locate.specs.declared.Located.the-variants.{Cell, Refused as NotLoca
 use Rattle.locate.specs.Locate.{sortedCorners, firstHolder, locateCall}
 use Rattle.locate.proofs.First.{corners-cong, corners-below}
 use Rattle.locate.proofs.Finding.{refused, outside}
-use Rattle.cavity.specs.Answers.{Answers, sphere, handed}
+use Rattle.cavity.specs.Answers.{Answers}
 use Rattle.cavity.specs.Cavity.{inSet}
 use Rattle.star.specs.Star.{newCount, star}
 use Rattle.star.proofs.Star.{Fits}
 use Rattle.insertion.specs.declared.Report.{Report}
-use Rattle.insertion.specs.declared.Inserted.the-variants.{Accepted, Refused}
+use Rattle.insertion.specs.declared.Inserted.the-variants.{Accepted}
 use Rattle.insertion.specs.Insertion.{lastCavity, cellsMade, nodeRefusal, fewerBytes, insertedMesh, insertedTables, insertNode, insertCall}
-use Rattle.insertion.specs.List.{listedNode, listedCount, insertFrom, listCall}
-use Rattle.insertion.proofs.Refusals.{MeshFor, node-fits, node-accepted, node-refused, call-refused, call-is-node, accepted-node}
+use Rattle.insertion.proofs.Refusals.{MeshFor, node-fits, call-is-node, accepted-node, accepted-call}
 use Rattle.insertion.proofs.Growing.{inserted, checks-again}
-use Rattle.insertion.proofs.Steps.{list-refused, list-begins, node-in, node-out}
-use Rattle.calls.specs.Calls.{Build, Call, by-sphere, by-answers, by-list, recordAfter, recordAfterList, insertOutcome, listOutcome, outcome, meshAfter}
+use Rattle.calls.specs.Calls.{Build, Call, meshAfter}
+use Rattle.calls.proofs.EachNode.{calls-keep}
 use Rattle.located.specs.Claim.{Stands}
 use Rattle.located.specs.Parked.{LocatedIn, OutsideCavity, StaysLocated}
 use Rattle.located.proofs.Theorem.{mesh-of, holder-first, is-located}
@@ -163,75 +162,16 @@ parked-node m t w p a {m′} e f q v c l out =
 pub parked-once : (m : Mesh) (t : Tables) (w : ℕ) (p : Position) (a : Answers) {m′ : Mesh} {r : Report} →
     Accepted m′ r ≡ insertCall m t w p a .answer → (q : Position) (v c : ℕ) → locateCall m t v q ≡ Cell c → OutsideCavity m t p a c →
     LocatedIn t c m′ (insertCall m t w p a .tables) w q
-parked-once m t w p a {m′} {r} f q v c l out = go (ℕ-discrete (meshRefusal m t w (fewerBytes a (m .cells))) 0)
-  where
-    go : Dec (meshRefusal m t w (fewerBytes a (m .cells)) ≡ 0) → LocatedIn t c m′ (insertCall m t w p a .tables) w q
-    go (no d) =
-        let g : Accepted m′ r ≡ Refused (meshRefusal m t w (fewerBytes a (m .cells))) = f ∙ ap (λ l. l .answer) (call-refused m t w p a refl d) in
-        let z : _≡_ {A = ℕ} 0 1 = cc in absurd (omega arith)
-    go (yes z) =
-        let s = call-is-node m t w p a z in
-        subst (λ x. LocatedIn t c m′ (x .tables) w q) (sym s)
-        (parked-node m t w p a (passed m t w (fewerBytes a (m .cells)) z) (f ∙ ap (λ l. l .answer) s) q v c l out)
+parked-once m t w p a {m′} f q v c l out =
+    let z = accepted-call m t w p a f in
+    let s = call-is-node m t w p a z in
+    subst (λ x. LocatedIn t c m′ (x .tables) w q) (sym s)
+    (parked-node m t w p a (passed m t w (fewerBytes a (m .cells)) z) (f ∙ ap (λ l. l .answer) s) q v c l out)
 
-module _ (q : Position) where
-  -- ---- what a call leaves is as it was, or has one node more, or several; and it passes the mesh check as before
-
-  abbrev Left : Mesh → Tables → Mesh → Tables → Type 0
-  Left m t m′ t′ = Stays q m t m′ t′ × Checked m′ t′
-
-  call-left : (m : Mesh) (t : Tables) (w : ℕ) (p : Position) (a : Answers) → Checked m t →
-      Left m t (recordAfter m (insertCall m t w p a .answer)) (insertCall m t w p a .tables)
-  unfolding recordAfter
-  call-left m t w p a C = go (ℕ-discrete (meshRefusal m t w (fewerBytes a (m .cells))) 0) (ℕ-discrete (nodeRefusal m t w p a) 0)
-    where
-      go : Dec (meshRefusal m t w (fewerBytes a (m .cells)) ≡ 0) → Dec (nodeRefusal m t w p a ≡ 0) →
-          Left m t (recordAfter m (insertCall m t w p a .answer)) (insertCall m t w p a .tables)
-      go (no d) n = rw (call-refused m t w p a refl d) (same q m t, C)
-      go (yes z) (no d) = rw (call-is-node m t w p a z, node-refused m t w p a refl d) (same q m t, C)
-      go (yes z) (yes y) =
-          let e = passed m t w (fewerBytes a (m .cells)) z in
-          rw (call-is-node m t w p a z, node-accepted m t w p a y) (node-stays q m t w p a e y, (w, checks-again m t w p a e y))
-
-  -- whatever record m₀ an answer without one would leave: here each answer has its own
-  nodes-left : (w : ℕ) (ns : List ℕ) (k i : ℕ) (m m₀ : Mesh) (t : Tables) → isMesh m t w ≡ true →
-      Left m t (recordAfterList m₀ (insertFrom k i m t w ns .answer)) (insertFrom k i m t w ns .tables)
-  unfolding recordAfterList insertFrom
-  nodes-left w ns zero i m m₀ t e = (same q m t, (w, e))
-  nodes-left w ns (suc k) i m m₀ t e = go (ℕ-discrete (nodeRefusal m t w (listedNode ns i) sphere) 0) (λ m t e. nodes-left w ns k (suc i) m m₀ t e)
-    where
-      p : Position
-      p = listedNode ns i
-
-      go : Dec (nodeRefusal m t w (listedNode ns i) sphere ≡ 0) →
-          ((m : Mesh) (t : Tables) → isMesh m t w ≡ true → Left m t (recordAfterList m₀ (insertFrom k (suc i) m t w ns .answer)) (insertFrom k (suc i) m t w ns .tables)) →
-          Left m t (recordAfterList m₀ (insertFrom (suc k) i m t w ns .answer)) (insertFrom (suc k) i m t w ns .tables)
-      go (no d) ih = subst (λ l. Left m t (recordAfterList m₀ (l .answer)) (l .tables)) (sym (node-out m t w ns i k (node-refused m t w p sphere refl d))) (same q m t, (w, e))
-      go (yes z) ih =
-          let rest = ih (insertedMesh m t p sphere) (insertedTables m t p sphere) (checks-again m t w p sphere e z) in
-          subst (λ l. Left m t (recordAfterList m₀ (l .answer)) (l .tables)) (sym (node-in m t w ns i k (node-accepted m t w p sphere z)))
-          (then q (w, e) (node-stays q m t w p sphere e z) (rest .0), rest .1)
-
-  list-left : (m : Mesh) (t : Tables) (w : ℕ) (ns : List ℕ) → Checked m t → Left m t (recordAfterList m (listCall m t w ns .answer)) (listCall m t w ns .tables)
-  unfolding recordAfterList
-  list-left m t w ns C = go (ℕ-discrete (meshRefusal m t w false) 0)
-    where
-      go : Dec (meshRefusal m t w false ≡ 0) → Left m t (recordAfterList m (listCall m t w ns .answer)) (listCall m t w ns .tables)
-      go (no d) = rw (list-refused m t w ns refl d) (same q m t, C)
-      go (yes z) = rw (list-begins m t w ns z) (nodes-left w ns (listedCount ns) 0 m m t (passed m t w false z))
-
-  -- ---- lists of calls
-
-  one-call : (b : Build) (c : Call) → Checked (b .mesh) (b .tables) → Left (b .mesh) (b .tables) (outcome b c .after .mesh) (outcome b c .after .tables)
-  unfolding outcome insertOutcome listOutcome
-  one-call b (by-sphere w p) C = call-left (b .mesh) (b .tables) w p sphere C
-  one-call b (by-answers w bytes p) C = call-left (b .mesh) (b .tables) w p (handed bytes) C
-  one-call b (by-list w ns) C = list-left (b .mesh) (b .tables) w ns C
-
-  all-calls : (b : Build) (cs : List Call) → Checked (b .mesh) (b .tables) → Stays q (b .mesh) (b .tables) (meshAfter b cs .mesh) (meshAfter b cs .tables)
-  unfolding meshAfter
-  all-calls b [] C = same q (b .mesh) (b .tables)
-  all-calls b (c ∷ cs) C = let r = one-call b c C in then q C (r .0) (all-calls (outcome b c .after) cs (r .1))
+all-calls : (q : Position) (b : Build) (cs : List Call) → Checked (b .mesh) (b .tables) → Stays q (b .mesh) (b .tables) (meshAfter b cs .mesh) (meshAfter b cs .tables)
+all-calls q b cs C =
+    calls-keep (λ b′ ps. Stays q (b .mesh) (b .tables) (b′ .mesh) (b′ .tables))
+    (λ a m t w p ps e z s. then q C s (node-stays q m t w p a e z)) b cs [] (same q (b .mesh) (b .tables))
 
 -- over every list of calls: while its cell stands, it is located in it
 pub parked : (b : Build) (cs : List Call) (q : Position) → StaysLocated b cs q
