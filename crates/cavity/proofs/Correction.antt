@@ -1,4 +1,4 @@
--- The corrected cavity: it has the base, its outer faces are visible or coplanar, and it loses no corner (C1, C2, C3).
+-- The corrected cavity: it has the base, its outer faces are visible or coplanar, and it loses no corner (C1, C2, C3). What has these already is not corrected.
 use Prim.Native.Nat.{ℕ, _+_, _*_, _≤_, _<_}
 use mathlib.Core.Bool.{Bool, true, false, not, _&&_, _||_}
 use mathlib.Core.Logic.{_≢_, _⊎_, inl, inr}
@@ -12,18 +12,19 @@ use lib.IntN.{pos}
 use lib.Signed.{_<ℤ_, _≤ℤ_}
 use borrow.Author.Tests.{not-true, not-false}
 use Rattle.arith.specs.Table.{anyBelow, countBelow, iterate}
-use Rattle.arith.proofs.Flags.{split, clash, flag-below, and-left, and-right, and-intro, or-left}
-use Rattle.arith.proofs.Tables.{tabulate-length, tabulate-at}
-use Rattle.arith.proofs.Settling.{iterate-keeps, iterate-stops, settles, clearing-settles}
+use Rattle.arith.proofs.Flags.{split, clash, flag-below, and-left, and-right, and-intro, or-left, or-right}
+use Rattle.arith.proofs.Tables.{tabulate-length, tabulate-at, all-intro, any-intro}
+use Rattle.arith.proofs.Settling.{iterate-keeps, iterate-fixed, iterate-stops, settles, clearing-settles}
 use Rattle.arith.proofs.Counting.{count-fewer, count-le}
 use Rattle.arith.proofs.Order.{trichotomy, <-irrefl, <-≤-trans, ≤-<-trans, neg-mono-<}
 use Rattle.geometry.specs.declared.Position.{Position}
 use Rattle.geometry.specs.Volume.{volume, replaced}
-use Rattle.mesh.specs.Tables.{Tables, none, cellOf, opposite, point, corner, across, cornerAt, cellVolume, side, mate}
+use Rattle.mesh.specs.Tables.{Tables, none, cellOf, opposite, point, corner, across, cornerAt, cellVolume, side, mate, faceHas}
 use Rattle.mesh.specs.Mesh.{OnFace, IsMesh}
 use Rattle.mesh.proofs.Room.{Room}
 use Rattle.mesh.proofs.Faces.{few, mated, mate-opposite}
 use Rattle.mesh.proofs.FaceNumbers.{face-cell, face-opposite, opposite<, face-eq}
+use Rattle.mesh.proofs.Links.{on-face-yes}
 use Rattle.mesh.proofs.Held.{Holds, side-at, neighbour-holds, other-weight}
 use Rattle.cavity.specs.Cavity.{outer, inSet, base, grown, cavity, visible, coplanar, facesGood, cornersGood, marked, pruned, corrected, correctedCavity, cavityOf}
 use Rattle.locate.specs.Locate.{holds}
@@ -295,3 +296,53 @@ module _ {X Y Z pc cc np n : ℕ} {t : Tables} (M : IsMesh X Y Z pc cc np n t) (
     corners = corner-exposed M R p new last last-long last-has last-good;
     some = (c₀, last-has c₀ some);
   }
+
+-- ---- a star-shaped set is left as it is
+
+module _ {t : Tables} {n : ℕ} {p : Position} {s : List Bool} (S : StarShaped t n p s) where
+  good-faces : (c : ℕ) → c < n → facesGood t p s c ≡ true
+  unfolding facesGood
+  good-faces c c< = all-intro 4 (λ k. not (outer (across t) (inSet s) (4 * c + k)) || (coplanar t p (4 * c + k) || visible t p s (4 * c + k))) (λ k h. each (4 * c + k) (omega arith))
+    where
+      each : (f : ℕ) → f < 4 * n → (not (outer (across t) (inSet s) f) || (coplanar t p f || visible t p s f)) ≡ true
+      each f f< = by (split (outer (across t) (inSet s) f))
+        where
+          at : (visible t p s f ≡ true) ⊎ (coplanar t p f ≡ true) → (coplanar t p f || visible t p s f) ≡ true
+          at (inl h) = or-right (coplanar t p f) (visible t p s f) h
+          at (inr h) = or-left (coplanar t p f) (visible t p s f) h
+
+          by : (outer (across t) (inSet s) f ≡ true) ⊎ (outer (across t) (inSet s) f ≡ false) → (not (outer (across t) (inSet s) f) || (coplanar t p f || visible t p s f)) ≡ true
+          by (inl o) = or-right (not (outer (across t) (inSet s) f)) (coplanar t p f || visible t p s f) (at (S .faces f f< o))
+          by (inr o) = or-left (not (outer (across t) (inSet s) f)) (coplanar t p f || visible t p s f) (ap not o)
+
+  good-corners : (c : ℕ) → inSet s c ≡ true → cornersGood t n p s c ≡ true
+  unfolding cornersGood
+  good-corners c e = all-intro 4 (λ k. anyBelow (4 * n) (λ f. visible t p s f && faceHas t f (corner t c k))) each
+    where
+      each : (k : ℕ) → k < 4 → anyBelow (4 * n) (λ f. visible t p s f && faceHas t f (corner t c k)) ≡ true
+      each k h =
+          let E = S .corners c k e h in
+          any-intro (4 * n) (λ f. visible t p s f && faceHas t f (corner t c k)) (E .face) (E .face<) (and-intro (E .face-visible) (on-face-yes t (E .face) (corner t c k) (E .on)))
+
+  module _ (b : List Bool) where
+    unmarked : (c : ℕ) → c < n → inSet s c ≡ true → marked t n p b s c ≡ false
+    unfolding marked
+    unmarked c c< e = rw (e, good-faces c c<, good-corners c e) (go (inSet b c))
+      where
+        go : (x : Bool) → (not x && false) ≡ false
+        go true = refl
+        go false = refl
+
+    stays : (c : ℕ) → c < n → (inSet s c && not (marked t n p b s c)) ≡ inSet s c
+    stays c c< = by (split (inSet s c))
+      where
+        by : (inSet s c ≡ true) ⊎ (inSet s c ≡ false) → (inSet s c && not (marked t n p b s c)) ≡ inSet s c
+        by (inl e) = and-intro e (ap not (unmarked c c< e)) ∙ sym e
+        by (inr e) = rw e
+
+    pub star-shaped-stays : corrected t n p b s ≡ s
+    unfolding corrected
+    star-shaped-stays =
+        iterate-fixed (pruned t n p b) n s
+        (ext-getD false (pruned t n p b s) s (pruned-long t n p b s ∙ sym (S .long))
+        (λ c h. let c< : c < n = omega (arith, pruned-long t n p b s) in pruned-at t n p b s c c< ∙ stays c c<))

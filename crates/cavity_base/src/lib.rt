@@ -12,8 +12,7 @@ use cavity::Answer;
 use cavity::Gathered;
 use cavity::Node;
 use insphere::Sphere;
-use insphere::judge;
-use insphere::sphere_sum;
+use insphere::sphere_answer;
 use locate_holding::cell_holds;
 use locate_holding::shared_bits;
 use mesh_tables::four_at;
@@ -39,11 +38,10 @@ pub fn answer_of(
         };
     }
     let q = node.position;
-    let sphere = judge(sphere_sum(positions(points, four_at(corners, c)), q));
+    let sphere = sphere_answer(positions(points, four_at(corners, c)), q);
     match sphere {
         Sphere::Inside(t) => Answer { yes: true, t: t },
         Sphere::Outside(t) => Answer { yes: false, t: t },
-        Sphere::Close(t) => Answer { yes: 0.0 < t, t: t },
     }
 }
 

@@ -12,7 +12,7 @@ ghost use Rattle.mesh.specs.Tables.{tablesBefore, tablesAfter, cleared};
 ghost use Rattle.mesh.specs.Check.{isMesh};
 ghost use Rattle.cavity.specs.Answers.{sphere, handed};
 ghost use Rattle.gantry_numbers.specs.Numbers.{testedOf};
-ghost use Rattle.gantry_numbers.specs.Promises.{Starts, Inserts, Lists, Locates, Reads, Writes, Merges, Agrees};
+ghost use Rattle.gantry_numbers.specs.Promises.{Starts, Inserts, Lists, Locates, Reads, Writes, Merges, GivesNear};
 use gantry_numbers::GantryInserted;
 use gantry_numbers::GantryListed;
 use gantry_numbers::GantryLocated;
@@ -81,7 +81,7 @@ pub extern "C" fn gantry_sphere_test(
     pz: u32,
 ) -> GantrySphere
     ensures { λ r. ⌜ r ≡ testedOf (sphereCall (position ax ay az) (position bx by bz) (position cx cy cz) (position dx dy dz) (position px py pz)) ⌝ }
-    ensures agrees { λ r. ⌜ Agrees (sphereSum (position ax ay az) (position bx by bz) (position cx cy cz) (position dx dy dz) (position px py pz)) r ⌝ }
+    ensures near { λ r. ⌜ GivesNear (sphereSum (position ax ay az) (position bx by bz) (position cx cy cz) (position dx dy dz) (position px py pz)) r ⌝ }
 {
     let answer = sphere_test(
         Position {

@@ -9,10 +9,10 @@ use borrow.Author.Tests.{eqb-false}
 use lib.Dec.{eqb}
 use Rattle.arith.proofs.Flags.{split}
 use Rattle.geometry.specs.declared.Position.{Position}
-use Rattle.insphere.specs.declared.Sphere.the-variants.{Inside, Outside, Close}
+use Rattle.insphere.specs.declared.Sphere.the-variants.{Inside, Outside}
 use Rattle.insphere.specs.declared.Tested.{Tested}
 use Rattle.insphere.specs.declared.Tested.the-variants.{Answered, Refused}
-use Rattle.insphere.specs.Sphere.{sphereSum, sphereT, judged, sphereRefusal, sphereCall, AgreesWith}
+use Rattle.insphere.specs.Sphere.{sphereSum, sphereAnswer, sphereRefusal, sphereCall, CarriesNear}
 use Rattle.mesh.specs.declared.Mesh.{Mesh}
 use Rattle.mesh.specs.declared.Started.{Started}
 use Rattle.mesh.specs.Tables.{Tables}
@@ -34,7 +34,7 @@ use Rattle.gantry_numbers.specs.declared.GantrySphere.{GantrySphere}
 use Rattle.gantry_numbers.specs.declared.GantryRead.{GantryRead}
 use Rattle.gantry_numbers.specs.declared.GantryWritten.{GantryWritten}
 use Rattle.gantry_numbers.specs.Numbers.{startedOf, insertedOf, listedOf, sphereOf, testedOf, readOf, writtenOf}
-use Rattle.gantry_numbers.specs.Promises.{Starts, Inserts, Lists, Reads, Writes, Merges, Agrees}
+use Rattle.gantry_numbers.specs.Promises.{Starts, Inserts, Lists, Reads, Writes, Merges, GivesNear}
 
 pub starts : {X Y Z : ℕ} {t t′ : Tables} {ws ws′ : List ℕ} {s : Started} {r : GantryStarted} →
     StartLeaves X Y Z t ws s t′ ws′ → r ≡ startedOf s → Starts X Y Z t ws r t′ ws′
@@ -73,18 +73,17 @@ module _ (a b c d p : Position) where
 
       go : (eqb k 0 ≡ true) ⊎ (eqb k 0 ≡ false) → ⊥
       go (inl h) =
-          let f : Refused n ≡ Answered (judged (sphereT a b c d p)) = rw h at q in
+          let f : Refused n ≡ Answered (sphereAnswer a b c d p) = rw h at q in
           let o : _≡_ {A = ℕ} 0 1 = cc in omega arith
       go (inr h) =
           let f : Refused n ≡ Refused k = rw h at q in
           let o : n ≡ k = cc in eqb-false k 0 h (sym o ∙ z)
 
-  pub agrees : {s : Tested} {r : GantrySphere} → s ≡ sphereCall a b c d p → AgreesWith (sphereSum a b c d p) s → r ≡ testedOf s → Agrees (sphereSum a b c d p) r
+  pub gives-near : {s : Tested} {r : GantrySphere} → s ≡ sphereCall a b c d p → CarriesNear (sphereSum a b c d p) s → r ≡ testedOf s → GivesNear (sphereSum a b c d p) r
   unfolding testedOf sphereOf
-  agrees {s} q A e = subst (Agrees (sphereSum a b c d p)) (sym e) (go s q A)
+  gives-near {s} q A e = subst (GivesNear (sphereSum a b c d p)) (sym e) (go s q A)
     where
-      go : (s : Tested) → s ≡ sphereCall a b c d p → AgreesWith (sphereSum a b c d p) s → Agrees (sphereSum a b c d p) (testedOf s)
-      go (Answered (Inside t)) q A = record { near = λ z. A .0; inside = λ z. A .1; outside = λ z. absurd (omega arith) }
-      go (Answered (Outside t)) q A = record { near = λ z. A .0; inside = λ z. absurd (omega arith); outside = λ z. A .1 }
-      go (Answered (Close t)) q A = record { near = λ z. A; inside = λ z. absurd (omega arith); outside = λ z. absurd (omega arith) }
-      go (Refused n) q A = record { near = λ z. absurd (refused-above n q z); inside = λ z. absurd (omega arith); outside = λ z. absurd (omega arith) }
+      go : (s : Tested) → s ≡ sphereCall a b c d p → CarriesNear (sphereSum a b c d p) s → GivesNear (sphereSum a b c d p) (testedOf s)
+      go (Answered (Inside t)) q A z = A
+      go (Answered (Outside t)) q A z = A
+      go (Refused n) q A z = absurd (refused-above n q z)

@@ -1,7 +1,7 @@
 -- The numbers of the C interface (include/gantry.h): what C is given for each case of an answer. The refusal is 0 where the call was
 -- accepted, and a field that a refusal leaves without meaning is 0.
 use Rattle.insphere.specs.declared.Sphere.{Sphere}
-use Rattle.insphere.specs.declared.Sphere.the-variants.{Inside, Outside, Close}
+use Rattle.insphere.specs.declared.Sphere.the-variants.{Inside, Outside}
 use Rattle.insphere.specs.declared.Tested.{Tested}
 use Rattle.insphere.specs.declared.Tested.the-variants.{Answered, Refused as TestRefused}
 use Rattle.insphere.specs.Sphere.{zeroFloat}
@@ -59,11 +59,10 @@ unfoldable pub locatedOf : Located → GantryLocated
 locatedOf (Cell c) = record { refusal = 0; cell = c }
 locatedOf (LocateRefused e) = record { refusal = e; cell = 0 }
 
--- 1 inside, 2 outside, 3 close
+-- 1 inside, 2 outside; document 02 §2 retired 3, close
 unfoldable pub sphereOf : Sphere → GantrySphere
 sphereOf (Inside t) = record { refusal = 0; answer = 1; t = t }
 sphereOf (Outside t) = record { refusal = 0; answer = 2; t = t }
-sphereOf (Close t) = record { refusal = 0; answer = 3; t = t }
 
 unfoldable pub testedOf : Tested → GantrySphere
 testedOf (Answered s) = sphereOf s

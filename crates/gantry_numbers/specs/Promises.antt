@@ -3,8 +3,7 @@
 use Prim.Native.Nat.{ℕ}
 use mathlib.Core.List.{List}
 use mathlib.Core.Path.{_≡_}
-use lib.IntN.{ℤ, pos}
-use lib.Signed.{_<ℤ_}
+use lib.IntN.{ℤ}
 use lib.ListN.{length}
 use Rattle.rounding.specs.Whole.{Near}
 use Rattle.geometry.specs.declared.Position.{Position}
@@ -61,8 +60,6 @@ pub record Merges (first second out : List ℕ) (r : GantryWritten) (out′ : Li
   pub answer : r ≡ writtenOf (mergeAnswer first second (length out))
   pub output : out′ ≡ mergeOutput first second out
 
--- what the sphere test's answer tells of the exact sum e: T lies within 2^39 of it, and beyond ±2^39 has its sign
-pub record Agrees (e : ℤ) (r : GantrySphere) : Type 0 where
-  pub near : r .refusal ≡ 0 → Near (r .t) e
-  pub inside : r .answer ≡ 1 → pos 0 <ℤ e
-  pub outside : r .answer ≡ 2 → e <ℤ pos 0
+-- of the sphere test's answer, with the exact sum e: T lies within 2^39 of it
+abbrev pub GivesNear : ℤ → GantrySphere → Type 0
+GivesNear e r = r .refusal ≡ 0 → Near (r .t) e

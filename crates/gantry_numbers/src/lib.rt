@@ -46,7 +46,7 @@ pub struct GantryLocated {
     pub cell: u32,
 }
 
-// Answers 1 inside, 2 outside, 3 close.
+// Answers 1 inside, 2 outside.
 #[repr(C)]
 pub struct GantrySphere {
     pub refusal: u8,
@@ -170,11 +170,6 @@ fn sphere(answer: Sphere) -> GantrySphere
         Sphere::Outside(t) => GantrySphere {
             refusal: 0,
             answer: 2,
-            t: t,
-        },
-        Sphere::Close(t) => GantrySphere {
-            refusal: 0,
-            answer: 3,
             t: t,
         },
     }

@@ -1,4 +1,4 @@
--- Inserting one node, by the float sphere test or by answers handed in: refusals, report, record and tables.
+-- Inserting one node, by the sphere test or by answers handed in: refusals, report, record and tables.
 use Prim.Native.Nat.{ℕ, _+_}
 use mathlib.Core.Bool.{Bool, false, not, cond}
 use mathlib.Core.List.{List}

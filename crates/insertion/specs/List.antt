@@ -1,4 +1,4 @@
--- Inserting a list of nodes by the float sphere test: 'A list goes in one by one; at the first refused node it stops'.
+-- Inserting a list of nodes by the sphere test: 'A list goes in one by one; at the first refused node it stops'.
 use Prim.Native.Nat.{ℕ, zero, suc, _/_}
 use mathlib.Core.Bool.{false, cond}
 use mathlib.Core.List.{List}

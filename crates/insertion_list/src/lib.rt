@@ -51,7 +51,7 @@ fn insert_nodes(
     Listed::Ended(now, i as u32)
 }
 
-// Inserts a list of nodes by the float sphere test, three numbers a node.
+// Inserts a list of nodes by the sphere test, three numbers a node.
 pub fn insert_list(
     mesh: Mesh,
     points: &mut [u32],

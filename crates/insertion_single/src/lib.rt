@@ -10,7 +10,7 @@ use mesh::Mesh;
 use mesh_check::mesh_refusal;
 use mesh_tables::clear;
 
-// Inserts one node by the float sphere test.
+// Inserts one node by the sphere test.
 pub fn insert(
     mesh: Mesh,
     points: &mut [u32],

@@ -1,15 +1,16 @@
 -- Document 01's worked pieces for volumes and the sphere test, by computation.
-use Prim.Native.Nat.{ℕ, _*_, _/_, _%_}
+use Prim.Native.Nat.{ℕ, _*_, _/_, _%_, _^_}
 use mathlib.Core.Bool.{true, false}
 use mathlib.Core.Path.{_≡_, refl}
 use mathlib.Core.List.{List, [], _∷_, map}
-use lib.IntN.{ℤ, pos, _+ℤ_}
-use lib.Ieee.{Float, fin, add, mul, ofInt, lt}
+use lib.IntN.{ℤ, pos, negsuc, negℤ, _+ℤ_}
+use lib.Ieee.{Float, fin, add, mul, ofInt}
 use Rattle.geometry.specs.declared.Position.{Position}
-use Rattle.insphere.specs.declared.Sphere.the-variants.{Inside, Close}
-use Rattle.geometry.specs.Volume.{volume6, squaredDistance}
+use Rattle.insphere.specs.declared.Sphere.{Sphere}
+use Rattle.insphere.specs.declared.Sphere.the-variants.{Inside, Outside}
+use Rattle.geometry.specs.Volume.{position, volume6, squaredDistance}
 use Rattle.geometry.specs.Inner.{volumesAt}
-use Rattle.insphere.specs.Sphere.{sphereT, judged, aboveZero}
+use Rattle.insphere.specs.Sphere.{sphereSum, sphereT, sphereAnswer}
 
 -- corner k of a cube with the side s
 abbrev corner : ℕ → ℕ → Position
@@ -44,7 +45,7 @@ unfolding volumesAt volume6
 volumes-16 = refl
 
 distances : map (λ k. squaredDistance (corner 4 k) P) (0 ∷ 6 ∷ 4 ∷ 7 ∷ []) ≡ pos 14 ∷ pos 6 ∷ pos 6 ∷ pos 14 ∷ []
-unfolding squaredDistance map
+unfolding squaredDistance
 distances = refl
 
 -- 640
@@ -55,19 +56,56 @@ sum-640 : sphereT (corner 4 0) (corner 4 6) (corner 4 4) (corner 4 7) P ≡ T
 unfolding sphereT volume6 squaredDistance add mul ofInt
 sum-640 = refl
 
-close-640 : judged T ≡ Close T
-unfolding judged lt
-close-640 = refl
-
-yes-640 : aboveZero T ≡ true
-unfolding aboveZero lt
-yes-640 = refl
+-- 'The piece that read close reads inside': E is 640 too
+inside-640 : sphereAnswer (corner 4 0) (corner 4 6) (corner 4 4) (corner 4 7) P ≡ Inside T
+unfolding sphereAnswer sphereSum sphereT volume6 squaredDistance add mul ofInt
+inside-640 = refl
 
 -- side 131,072, P at half, cell 0: 3 × 2^83
-half : sphereT (corner 131072 0) (corner 131072 1) (corner 131072 3) (corner 131072 7) (record { x = 65536; y = 65536; z = 65536 }) ≡ fin false 3 (pos 83)
+half : sphereT (corner 131072 0) (corner 131072 1) (corner 131072 3) (corner 131072 7) (position 65536 65536 65536) ≡ fin false 3 (pos 83)
 unfolding sphereT volume6 squaredDistance add mul ofInt
 half = refl
 
-half-inside : judged (fin false 3 (pos 83)) ≡ Inside (fin false 3 (pos 83))
-unfolding judged lt
+half-inside : sphereAnswer (corner 131072 0) (corner 131072 1) (corner 131072 3) (corner 131072 7) (position 65536 65536 65536) ≡ Inside (fin false 3 (pos 83))
+unfolding sphereAnswer sphereSum sphereT volume6 squaredDistance add mul ofInt
 half-inside = refl
+
+-- ---- where T does not tell E's sign (document 02 §2)
+
+-- what E is, and what is answered
+abbrev Reads : Position → Position → Position → Position → Position → ℤ → Sphere → Type 0
+Reads a b c d p e s = (sphereSum a b c d p ≡ e) × (sphereAnswer a b c d p ≡ s)
+
+-- a tie with T above 0: cell 0 of a started box, at box corner 2
+tie-above : Reads (position 0 0 0) (position 1543 0 0) (position 1543 1555 0) (position 1543 1555 1555) (position 0 1555 0) (pos 0) (Outside (fin false 1 (pos 0)))
+unfolding sphereAnswer sphereSum sphereT volume6 squaredDistance add mul ofInt
+tie-above = (refl, refl)
+
+-- with T below 0
+tie-below : Reads (position 0 0 0) (position 1549 0 0) (position 1549 1553 0) (position 1549 1553 1553) (position 0 1553 0) (pos 0) (Outside (fin true 1 (pos 0)))
+unfolding sphereAnswer sphereSum sphereT volume6 squaredDistance add mul ofInt
+tie-below = (refl, refl)
+
+-- E above 0 and T = −2,773,504
+inside-below : Reads (position 0 0 0) (position 115625 2556 1400) (position 120000 0 0) (position 10122 6325 1013) (position 7461 3986 2802)
+    (pos 480000) (Inside (fin true 5417 (pos 9)))
+unfolding sphereAnswer sphereSum sphereT volume6 squaredDistance add mul ofInt
+inside-below = (refl, refl)
+
+-- E below 0 and T = 2^20
+outside-above : Reads (position 0 0 0) (position 5245 218 3669) (position 131072 0 0) (position 19046 2753 140) (position 114018 1906 3586)
+    (negsuc 262143) (Outside (fin false 1 (pos 20)))
+unfolding sphereAnswer sphereSum sphereT volume6 squaredDistance add mul ofInt
+outside-above = (refl, refl)
+
+-- ---- sides 131,072 and E ±3 × 2^84, the greatest size that a search found
+
+greatest : Reads (position 0 0 0) (position 131072 131072 0) (position 0 131072 131072) (position 131072 0 131072) (position 65536 65536 65536)
+    (pos (3 * 2 ^ 84)) (Inside (fin false 3 (pos 84)))
+unfolding sphereAnswer sphereSum sphereT volume6 squaredDistance add mul ofInt
+greatest = (refl, refl)
+
+least : Reads (position 0 0 131072) (position 131072 131072 131072) (position 65536 65536 65536) (position 0 131072 0) (position 131072 0 0)
+    (negℤ (pos (3 * 2 ^ 84))) (Outside (fin true 3 (pos 84)))
+unfolding sphereAnswer sphereSum sphereT volume6 squaredDistance add mul ofInt
+least = (refl, refl)

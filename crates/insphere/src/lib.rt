@@ -1,11 +1,13 @@
-// The sphere test: the float sum T and its three answers.
+// The sphere test: the float sum T, and whether the exact sum E is above 0.
 
 ghost use mathlib.Core.Path.{_≡_};
-ghost use Prim.Native.Nat.{_≤_, _^_};
-ghost use lib.IntN.{natAbs};
+ghost use lib.IntN.{pos};
+ghost use lib.Signed.{ltZ};
 ghost use Rattle.geometry.specs.Volume.{InRange};
 ghost use Rattle.geometry.specs.Inner.{CornersInRange};
+ghost use Rattle.insphere.specs.Inner.{TermInRange, TermsInRange, termsAt, exactSum, floatSum};
 ghost use Rattle.insphere.specs.Sphere as spec;
+use crate::exact::sum_above;
 use geometry::Position;
 use geometry::Tetrahedron;
 use geometry::distance::squared_distance;
@@ -14,11 +16,12 @@ use geometry::volume::in_range;
 use geometry::volume::volume;
 use geometry::volume::volumes_at;
 
+mod exact;
+
 // The sphere answer, which carries the float T.
 pub enum Sphere {
     Inside(f64),
     Outside(f64),
-    Close(f64),
 }
 
 // What the sphere test answers as a call: the sphere answer, or the refusal's number.
@@ -27,18 +30,29 @@ pub enum Tested {
     Refused(u8),
 }
 
-// Both become floats without loss.
-fn product(v: i64, l: i64) -> f64
-    requires { ⌜ (natAbs v ≤ 2 ^ 53) × (natAbs l ≤ 2 ^ 53) ⌝ }
-    ensures { λ r. ⌜ r ≡ spec.product v l ⌝ }
-{
-    (v as f64) * (l as f64)
+// A term of E: a volume and a squared distance, to be multiplied.
+pub struct Term {
+    pub volume: i64,
+    pub distance: i64,
 }
 
-// T of a cell with these corners, at p.
-pub fn sphere_sum(t: Tetrahedron, p: Position) -> f64
+// The four terms of E, corner by corner.
+pub struct Terms {
+    pub t0: Term,
+    pub t1: Term,
+    pub t2: Term,
+    pub t3: Term,
+}
+
+// A number in two words: high counts units of 2^27, low the rest.
+pub struct Words {
+    pub high: i64,
+    pub low: u64,
+}
+
+fn terms_at(t: Tetrahedron, p: Position) -> Terms
     requires { ⌜ CornersInRange t × InRange p ⌝ }
-    ensures { λ r. ⌜ r ≡ spec.sphereT (t .a) (t .b) (t .c) (t .d) p ⌝ }
+    ensures { λ r. ⌜ r ≡ termsAt t p ⌝ }
 {
     let a = t.a;
     let b = t.b;
@@ -49,23 +63,71 @@ pub fn sphere_sum(t: Tetrahedron, p: Position) -> f64
     let v1 = v.v1;
     let v2 = v.v2;
     let v3 = v.v3;
-    let t0 = product(v0, squared_distance(a, p));
-    let t1 = product(v1, squared_distance(b, p));
-    let t2 = product(v2, squared_distance(c, p));
-    let t3 = product(v3, squared_distance(d, p));
-    ((t0 + t1) + t2) + t3
+    Terms {
+        t0: Term {
+            volume: v0,
+            distance: squared_distance(a, p),
+        },
+        t1: Term {
+            volume: v1,
+            distance: squared_distance(b, p),
+        },
+        t2: Term {
+            volume: v2,
+            distance: squared_distance(c, p),
+        },
+        t3: Term {
+            volume: v3,
+            distance: squared_distance(d, p),
+        },
+    }
 }
 
-pub fn judge(t: f64) -> Sphere
-    ensures { λ r. ⌜ r ≡ spec.judged t ⌝ }
+// Both factors become floats without loss.
+fn product(x: Term) -> f64
+    requires { ⌜ TermInRange x ⌝ }
+    ensures { λ r. ⌜ r ≡ spec.product (x .volume) (x .distance) ⌝ }
+{
+    (x.volume as f64) * (x.distance as f64)
+}
+
+// T
+fn float_sum(x: Terms) -> f64
+    requires { ⌜ TermsInRange x ⌝ }
+    ensures { λ r. ⌜ r ≡ floatSum x ⌝ }
+{
+    let t0 = x.t0;
+    let t1 = x.t1;
+    let t2 = x.t2;
+    let t3 = x.t3;
+    ((product(t0) + product(t1)) + product(t2)) + product(t3)
+}
+
+// Whether E is above 0. Beyond ±2^39 the float tells its sign; else the exact sum is worked out.
+fn is_inside(x: Terms, t: f64) -> bool
+    requires { ⌜ TermsInRange x × (t ≡ floatSum x) ⌝ }
+    ensures { λ r. ⌜ r ≡ ltZ (pos 0) (exactSum x) ⌝ }
 {
     if 549755813888.0 < t {
-        return Sphere::Inside(t);
+        return true;
     }
     if t < -549755813888.0 {
-        return Sphere::Outside(t);
+        return false;
     }
-    Sphere::Close(t)
+    sum_above(x)
+}
+
+// The answer for a cell with these corners, at p.
+pub fn sphere_answer(t: Tetrahedron, p: Position) -> Sphere
+    requires { ⌜ CornersInRange t × InRange p ⌝ }
+    ensures { λ r. ⌜ r ≡ spec.sphereAnswer (t .a) (t .b) (t .c) (t .d) p ⌝ }
+{
+    let x = terms_at(t, p);
+    let sum = float_sum(x);
+    if is_inside(x, sum) {
+        return Sphere::Inside(sum);
+    }
+    Sphere::Outside(sum)
 }
 
 fn sphere_refusal(t: Tetrahedron, p: Position) -> u8
@@ -86,7 +148,7 @@ fn sphere_refusal(t: Tetrahedron, p: Position) -> u8
 // The sphere test as a call.
 pub fn sphere_test(a: Position, b: Position, c: Position, d: Position, p: Position) -> Tested
     ensures { λ r. ⌜ r ≡ spec.sphereCall a b c d p ⌝ }
-    ensures agrees { λ r. ⌜ spec.AgreesWith (spec.sphereSum a b c d p) r ⌝ }
+    ensures near { λ r. ⌜ spec.CarriesNear (spec.sphereSum a b c d p) r ⌝ }
 {
     let t = Tetrahedron {
         a: a,
@@ -98,5 +160,5 @@ pub fn sphere_test(a: Position, b: Position, c: Position, d: Position, p: Positi
     if refusal != 0 {
         return Tested::Refused(refusal);
     }
-    Tested::Answered(judge(sphere_sum(t, p)))
+    Tested::Answered(sphere_answer(t, p))
 }

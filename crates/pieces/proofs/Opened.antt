@@ -19,7 +19,7 @@ unfoldable pub opened : Unit {0}
 unfolding Table.fill Table.tabulate Table.allBelow Table.anyBelow Table.countBelow Table.selectFrom Table.selectBelow
     Table.firstFrom Table.firstBelow Table.iterate Table.sum
     Volume.volume6 Volume.volume Volume.squaredDistance
-    Sphere.sphereT Sphere.judged Sphere.aboveZero
+    Sphere.sphereSum Sphere.sphereT Sphere.sphereAnswer
     lib.Ieee.lt lib.Ieee.add lib.Ieee.mul lib.Ieee.ofInt
     Tables.pointCapacity Tables.cellCapacity Tables.pointIn Tables.corner Tables.across Tables.cornerAt Tables.cellVolume
     Tables.side Tables.faceHas Tables.sameFace Tables.mate Tables.placeOf
@@ -29,7 +29,7 @@ unfolding Table.fill Table.tabulate Table.allBelow Table.anyBelow Table.countBel
     Start.startTables
     Refusal.meshRefusal
     Locate.holds
-    Answers.cellT Answers.saysYes Answers.reportT Answers.leastT
+    Answers.cellE Answers.cellT Answers.saysYes Answers.reportT Answers.leastT
     Cavity.base Cavity.grown Cavity.cavity Cavity.outer Cavity.coplanar Cavity.visible Cavity.facesGood Cavity.cornersGood
     Cavity.marked Cavity.pruned Cavity.corrected Cavity.cavityOf Cavity.correctedCavity Cavity.cavitySize
     Turn.cross Turn.turn

@@ -8,11 +8,12 @@ use lib.ListN.{replicate}
 use lib.Ieee.{fin}
 use Rattle.arith.specs.Table.{tabulate, allBelow, countBelow, selectBelow, sum}
 use Rattle.geometry.specs.declared.Position.{Position}
-use Rattle.insphere.specs.declared.Sphere.the-variants.{Inside, Close}
+use Rattle.insphere.specs.declared.Sphere.{Sphere}
+use Rattle.insphere.specs.declared.Sphere.the-variants.{Inside}
 use Rattle.geometry.specs.Volume.{position, squaredDistance}
-use Rattle.insphere.specs.Sphere.{judged}
+use Rattle.insphere.specs.Sphere.{sphereAnswer}
 use Rattle.mesh.specs.Tables.{Tables, none, cornerAt, cellVolume, side}
-use Rattle.cavity.specs.Answers.{sphere, handed, cellT, saysYes}
+use Rattle.cavity.specs.Answers.{sphere, handed, saysYes}
 use Rattle.cavity.specs.Cavity.{inSet, base, coplanar, cornersGood, cavityOf}
 use Rattle.insertion.specs.declared.Inserted.the-variants.{Accepted, Refused}
 use Rattle.calls.specs.Calls.{startBuild, by-sphere}
@@ -161,16 +162,21 @@ next = reached (second 1 12) .tables
 abbrev members : ℕ → List Bool → List ℕ
 members n s = selectBelow n (inSet s)
 
+-- what the sphere test answers for cell c at p
+abbrev answerAt : Tables → Position → ℕ → Sphere
+answerAt t p c = sphereAnswer (cornerAt t c 0) (cornerAt t c 1) (cornerAt t c 2) (cornerAt t c 3) p
+
 -- every marked piece
 pub record MarkedPieces : Type 0 where
   -- 'Started: six-fold volumes are 64 each, sum 384.'
   pub each-64 : tabulate 6 (cellVolume (box 4)) ≡ replicate 6 (pos 64)
   pub sum-384 : sum 6 (cellVolume (box 4)) ≡ pos 384
-  -- '(1,2,3): base is cell 3 alone; there v are 16 each, L are 14, 6, 6, 14, T = 640, close, yes.'
+  -- '(1,2,3): base is cell 3 alone; there v are 16 each, L are 14, 6, 6, 14, T = 640, close, yes.' Document 02 §2: 'the piece that
+  -- read close reads inside'
   pub base-inside : members 6 (base (box 4) 6 (position 1 2 3)) ≡ 3 ∷ []
   pub volumes-inside : tabulate 4 (λ k. side (box 4) (position 1 2 3) (12 + k)) ≡ replicate 4 (pos 16)
   pub distances-inside : tabulate 4 (λ k. squaredDistance (cornerAt (box 4) 3 k) (position 1 2 3)) ≡ pos 14 ∷ pos 6 ∷ pos 6 ∷ pos 14 ∷ []
-  pub T-inside : judged (cellT (box 4) (position 1 2 3) 3) ≡ Close (float 640)
+  pub T-inside : answerAt (box 4) (position 1 2 3) 3 ≡ Inside (float 640)
   pub yes-inside : saysYes sphere (box 4) (position 1 2 3) 3 ≡ true
   -- '(2,2,0): base 0 and 1; two flat faces'
   pub base-on-wall : members 6 (base (box 4) 6 (position 2 2 0)) ≡ 0 ∷ 1 ∷ []
@@ -183,6 +189,6 @@ pub record MarkedPieces : Type 0 where
       let cavity = cavityOf next 12 (position 2 2 2) (λ c. true) in
       allBelow 12 (λ c. inSet (base next 12 (position 2 2 2)) c || not (cornersGood next 12 (position 2 2 2) cavity c)) ≡ true
   -- 'Side 131,072 each, P at half: cell 0 gives T = 3 × 2^83, inside.'
-  pub T-half : judged (cellT (box 131072) (position 65536 65536 65536) 0) ≡ Inside (fin false 3 (pos 83))
+  pub T-half : answerAt (box 131072) (position 65536 65536 65536) 0 ≡ Inside (fin false 3 (pos 83))
   -- and what the insertions of the table answer and leave
   pub insertions : map given marked ≡ map expected marked

@@ -10,9 +10,6 @@ enum-known-answer c = search needs
 enum-known-answer-2 : tie.Need-enum-known-answer-2
 enum-known-answer-2 c = search needs
 
-enum-known-answer-3 : tie.Need-enum-known-answer-3
-enum-known-answer-3 c = search needs
-
 returns : tie.Need-returns
 unfolding sphereOf
 returns c = sym (ap sphereOf (c .before .answer .given .1))
@@ -21,17 +18,5 @@ returns-2 : tie.Need-returns-2
 unfolding sphereOf
 returns-2 c = sym (ap sphereOf (c .before .answer2 .given .1))
 
-returns-3 : tie.Need-returns-3
-unfolding sphereOf
-returns-3 c = sym (ap sphereOf (c .before .answer3 .given .1))
-
 pub sphere-spec : {M : Type 1} → statement M
-sphere-spec =
-    tie.close
-    (tie.spec
-    enum-known-answer
-    enum-known-answer-2
-    enum-known-answer-3
-    returns
-    returns-2
-    returns-3)
+sphere-spec = tie.close (tie.spec enum-known-answer enum-known-answer-2 returns returns-2)

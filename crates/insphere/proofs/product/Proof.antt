@@ -1,7 +1,5 @@
-use mathlib.Core.Path.{sym, subst}
-use lib.Dec.{T}
-use lib.Ieee.{binary64, inFloat}
-use mir.Facts.{toZ-ofZ}
+use native.Mathlib.Omega.{arith}
+use Rattle.arith.proofs.Machine.{back-64}
 use Rattle.insphere.proofs.Promises.{in-float}
 use borrow.Author.Needs.{needs}
 use Rattle.insphere.proofs.product.Statement.{statement}
@@ -9,14 +7,18 @@ use Rattle.insphere.proofs.product.Tie as tie
 
 int-to-float-result : tie.Need-int-to-float-result
 int-to-float-result c =
-    subst (λ z. T (inFloat binary64 z)) (sym (toZ-ofZ (c .before .fits .v))) (in-float (c .before .args .v) (c .before .pre .0))
+    let s = c .before .before in
+    rw (back-64 (s .args .x .volume) (omega (arith, s .pre .volume≤))) (in-float (s .args .x .volume) (omega (arith, s .pre .volume≤)))
 
 int-to-float-result-2 : tie.Need-int-to-float-result-2
 int-to-float-result-2 c =
-    subst (λ z. T (inFloat binary64 z)) (sym (toZ-ofZ (c .before .before .fits .l))) (in-float (c .before .before .args .l) (c .before .before .pre .1))
+    let s = c .before .before .before .before in
+    rw (back-64 (s .args .x .distance) (omega (arith, s .pre .distance≤))) (in-float (s .args .x .distance) (omega (arith, s .pre .distance≤)))
 
 returns : tie.Need-returns
-returns c = search needs
+returns c =
+    let s = c .before .before .before .before in
+    rw (back-64 (s .args .x .volume) (omega (arith, s .pre .volume≤)), back-64 (s .args .x .distance) (omega (arith, s .pre .distance≤)))
 
 pub product-spec : {M : Type 1} → statement M
 product-spec = tie.close (tie.spec int-to-float-result int-to-float-result-2 returns)

@@ -2,8 +2,8 @@ use mathlib.Core.Path.{_≡_, sym, ap, _∙_}
 use borrow.Author.Needs.{needs}
 use borrow.Author.Tests.{eq-eqb, ne-eqb}
 use Rattle.insphere.specs.declared.Tested.the-variants.{Answered, Refused}
-use Rattle.insphere.specs.Sphere.{judged, sphereRefusal, sphereCall}
-use Rattle.insphere.proofs.Promises.{judged-agrees, accepted-in}
+use Rattle.insphere.specs.Sphere.{sphereRefusal, sphereCall}
+use Rattle.insphere.proofs.Promises.{answer-near, accepted-in}
 use Rattle.insphere.proofs.sphere_test.Statement.{statement}
 use Rattle.insphere.proofs.sphere_test.Tie as tie
 
@@ -19,21 +19,17 @@ returns c =
 accepted : (c : tie.Else1) → let a = c .before .before .args in sphereRefusal (a .a) (a .b) (a .c) (a .d) (a .p) ≡ 0
 accepted c = sym (c .before .sphere-refusal .ensures) ∙ c .if1 .left
 
-sphere-sum-requires : tie.Need-sphere-sum-requires
-sphere-sum-requires c κs = accepted-in _ _ _ _ _ (accepted c)
-
-judge-requires : tie.Need-judge-requires
-judge-requires c κs = search needs
+sphere-answer-requires : tie.Need-sphere-answer-requires
+sphere-answer-requires c κs = accepted-in _ _ _ _ _ (accepted c)
 
 returns-2 : tie.Need-returns-2
 unfolding sphereCall
 returns-2 c =
-    let ok = accepted (c .before .before) in
+    let ok = accepted (c .before) in
     let h = accepted-in _ _ _ _ _ ok in
-    let e = c .judge .ensures ∙ ap judged (c .before .sphere-sum .ensures) in
-    (rw (eq-eqb _ 0 ok) (ap Answered e), rw e (judged-agrees _ _ _ _ _ (h .0 .a) (h .0 .b) (h .0 .c) (h .0 .d) (h .1)))
+    let e = c .sphere-answer .ensures in
+    (rw (eq-eqb _ 0 ok) (ap Answered e), rw e (answer-near _ _ (h .0) (h .1)))
 
 pub sphere-test-spec : {M : Type 1} → statement M
 sphere-test-spec =
-    tie.close
-    (tie.spec sphere-refusal-requires returns sphere-sum-requires judge-requires returns-2)
+    tie.close (tie.spec sphere-refusal-requires returns sphere-answer-requires returns-2)

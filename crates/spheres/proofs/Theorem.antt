@@ -1,0 +1,125 @@
+-- Document 02 §2, after every list of calls from an accepted start in which our own test lets every node in.
+use Prim.Native.Nat.{ℕ, _+_, _*_, _≤_}
+use mathlib.Core.Bool.{true}
+use mathlib.Core.List.{List, [], _∷_, _++_}
+use mathlib.Core.Path.{_≡_, sym, ap, _∙_, subst}
+use native.Mathlib.Omega.{arith}
+use lib.ListN.{length, length-append}
+use Rattle.geometry.specs.declared.Position.{Position}
+use Rattle.mesh.specs.declared.Mesh.{Mesh}
+use Rattle.mesh.specs.Tables.{Tables, pointCapacity, cellCapacity, cellOf, opposite, mate}
+use Rattle.mesh.specs.Mesh.{IsMesh}
+use Rattle.mesh.specs.Check.{isMesh}
+use Rattle.mesh.specs.Start.{startRefusal}
+use Rattle.mesh.proofs.Room.{Room, room-of}
+use Rattle.mesh.proofs.Checked.{check-mesh}
+use Rattle.mesh.proofs.Verdict.{passed}
+use Rattle.mesh.proofs.Faces.{mate-cell<}
+use Rattle.mesh.proofs.FaceNumbers.{opposite<, cell<}
+use Rattle.cavity.specs.Answers.{sphere, handed}
+use Rattle.cavity.specs.Cavity.{cavitySize, cavityOf, correctedCavity}
+use Rattle.star.specs.Star.{madeCount, newCount, star}
+use Rattle.insertion.specs.declared.Report.{Report}
+use Rattle.insertion.specs.declared.Inserted.the-variants.{Accepted}
+use Rattle.insertion.specs.Insertion.{firstCavity, lastCavity, cellsMade, nodeRefusal, reportOf, insertedMesh, insertedTables, insertCall}
+use Rattle.insertion.proofs.Refusals.{MeshFor, NodeFits, node-fits, node-accepted, call-is-node, accepted-node, accepted-call}
+use Rattle.calls.specs.Calls.{Build, startBuild, Call, by-sphere, by-answers, by-list, outcome, meshAfter}
+use Rattle.calls.proofs.EachNode.{built, KeptBy, insert-keeps, list-keeps}
+use Rattle.calls.proofs.Calls.{every-list-of-calls}
+use Rattle.spheres.specs.Exact.{Empty, ExactInsertion}
+use Rattle.spheres.specs.Claim.{OwnCall, OwnCalls, EmptySpheres, EqualSizes}
+use Rattle.spheres.proofs.Cavity.{corner-out}
+use Rattle.spheres.proofs.Star.{exact-insertion}
+use Rattle.spheres.proofs.Start.{eight-empty}
+
+abbrev Clear : Build → Type 0
+Clear b = Empty (b .mesh .points) (b .mesh .cells) (b .tables)
+
+-- a call with answers handed in that accepts no node changes nothing
+none-accepted : (b : Build) (w : ℕ) (bytes : List ℕ) (p : Position) → Clear b → outcome b (by-answers w bytes p) .accepted ≡ [] → Clear (outcome b (by-answers w bytes p) .after)
+unfolding outcome
+none-accepted b w bytes p G =
+    insert-keeps (λ c ps. ps ≡ [] → Clear c) (handed bytes) (λ m t w p ps e r K q. absurd (some ps p q)) (b .mesh) (b .tables) w p [] (λ q. G)
+  where
+    some : (ps : List Position) (p : Position) → ps ++ (p ∷ []) ≡ [] → ⊥
+    some ps p q = let z : length (ps ++ (p ∷ [])) ≡ 0 = ap length q in omega (arith, length-append ps (p ∷ []))
+
+-- ---- one node that our own test lets in
+
+module _ (m : Mesh) (t : Tables) (w : ℕ) (p : Position) (e : isMesh m t w ≡ true) (r : nodeRefusal m t w p sphere ≡ 0) (G : Clear (built m t)) where
+  M : MeshFor m t w
+  M = check-mesh (m .x) (m .y) (m .z) (pointCapacity t) (cellCapacity t w) (m .points) (m .cells) t e
+
+  N : NodeFits m t w p sphere
+  N = node-fits m t w p sphere r
+
+  inserted : ExactInsertion (m .points) (m .cells) t p
+  unfolding cellsMade lastCavity
+  inserted = exact-insertion M (room-of t w) G p (N .box) (N .free) (omega (arith, M .points≤, N .next)) (N .cells)
+
+  node-clear : Clear (built (insertedMesh m t p sphere) (insertedTables m t p sphere))
+  unfolding insertedMesh insertedTables lastCavity
+  node-clear = inserted .empty
+
+  pub node-sizes : reportOf m t p sphere .before ≡ reportOf m t p sphere .after
+  unfolding reportOf firstCavity lastCavity
+  node-sizes = inserted .same-size
+
+-- ---- lists of calls
+
+by-own-test : KeptBy (λ b ps. Clear b) sphere
+by-own-test m t w p ps e r G = node-clear m t w p e r G
+
+own-call : (b : Build) (c : Call) → OwnCall b c → Clear b → Clear (outcome b c .after)
+unfolding OwnCall
+own-call b (by-sphere w p) o G = unfold outcome in insert-keeps (λ b ps. Clear b) sphere by-own-test (b .mesh) (b .tables) w p [] G
+own-call b (by-answers w bytes p) o G = none-accepted b w bytes p G o
+own-call b (by-list w ns) o G = unfold outcome in list-keeps (λ b ps. Clear b) by-own-test (b .mesh) (b .tables) w ns [] G
+
+own-calls : (b : Build) (cs : List Call) → OwnCalls b cs → Clear b → Clear (meshAfter b cs)
+unfolding OwnCalls meshAfter
+own-calls b [] o G = G
+own-calls b (c ∷ cs) o G = own-calls (outcome b c .after) cs (o .1) (own-call b c (o .0) G)
+
+module _ (X Y Z : ℕ) (t : Tables) (w : ℕ) (started : startRefusal X Y Z t w ≡ 0) (cs : List Call) (own : OwnCalls (startBuild X Y Z t w) cs) where
+  abbrev b : Build
+  b = meshAfter (startBuild X Y Z t w) cs
+
+  -- three entries a cell, whatever the cells
+  abbrev room : Build → ℕ
+  room c = 18 + 3 * c .mesh .cells
+
+  clear : Clear b
+  unfolding meshAfter startBuild
+  clear =
+      own-calls (startBuild X Y Z t w) cs own
+      (eight-empty (every-list-of-calls X Y Z t w started [] .mesh (room (startBuild X Y Z t w)) (omega arith) (omega arith)))
+
+  M′ : IsMesh X Y Z (pointCapacity (b .tables)) (cellCapacity (b .tables) (room b)) (b .mesh .points) (b .mesh .cells) (b .tables)
+  M′ = every-list-of-calls X Y Z t w started cs .mesh (room b) (omega arith) (omega arith)
+
+  R : Room (pointCapacity (b .tables)) (cellCapacity (b .tables) (room b)) (b .tables)
+  R = room-of (b .tables) (room b)
+
+  -- DOCUMENT 02 §2, whatever the nodes and the work areas, and whatever calls were refused in between. Nodes inserted by handed-in answers
+  -- carry no such statement: a list in which such a call accepts a node is none of `OwnCalls`.
+  pub own-spheres : EmptySpheres b
+  own-spheres = record {
+    far-corners = λ f l real.
+        corner-out M′ R clear (cellOf (mate (b .tables) f)) (cellOf f) (opposite (mate (b .tables) f)) (mate-cell< M′ R f l real) (cell< f l) (opposite< (mate (b .tables) f));
+    points = clear;
+  }
+
+  -- and whatever node our own test lets in next
+  pub own-reports : EqualSizes b
+  own-reports = record { reported = λ v p q. reported v p q }
+    where
+      reported : (v : ℕ) (p : Position) {m : Mesh} {r : Report} → Accepted m r ≡ insertCall (b .mesh) (b .tables) v p sphere .answer → r .before ≡ r .after
+      reported v p {m} {r} q =
+          let z = accepted-call (b .mesh) (b .tables) v p sphere q in
+          let s = q ∙ ap (λ l. l .answer) (call-is-node (b .mesh) (b .tables) v p sphere z) in
+          let h = accepted-node (b .mesh) (b .tables) v p sphere s .0 in
+          let f : Accepted m r ≡ Accepted (insertedMesh (b .mesh) (b .tables) p sphere) (reportOf (b .mesh) (b .tables) p sphere) =
+          s ∙ ap (λ l. l .answer) (node-accepted (b .mesh) (b .tables) v p sphere h) in
+          let k : reportOf (b .mesh) (b .tables) p sphere ≡ r = cc in
+          subst (λ x. x .before ≡ x .after) k (node-sizes (b .mesh) (b .tables) v p (passed (b .mesh) (b .tables) v _ z) h clear)
