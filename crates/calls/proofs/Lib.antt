@@ -1,3 +1,3 @@
--- Condition 3 of acceptance.
+-- What each accepted node keeps, every list of calls keeps (EachNode); so condition 3 of acceptance (Calls).
 pub mod EachNode
 pub mod Calls

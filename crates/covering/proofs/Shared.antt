@@ -160,7 +160,9 @@ module _ {X Y Z pc cc np n : ℕ} {t : Tables} (M : IsMesh X Y Z pc cc np n t) (
         on a p b h k w f f< z = add-neg h k (w f f< z) (way-far f f< z)
 
         go : (x : Place) × Start t n (form t far) near x → Chain t n (FaceHolds t q) c d
-        go (x, S) = by (walk-to M R far (mix-box X Y Z N q (middle t d) box (middle-box d ld)) Way on x (λ f f< z. S .below f f< (way-near f f< z)) (S .generic) c c lc lc (S .near c lc (inside c lc hc)) (S .near c lc (inside c lc hc)))
+        go (x, S) =
+            by (walk-to M R far (mix-box X Y Z N q (middle t d) box (middle-box d ld)) Way on x (λ f f< z. S .below f f< (way-near f f< z)) (S .generic) c c lc lc
+            (S .near c lc (inside c lc hc)) (S .near c lc (inside c lc hc)))
           where
             by : Walks t n (form t far) Way c c → Chain t n (FaceHolds t q) c d
             by L = subst (λ e. Chain t n (FaceHolds t q) c e) (held-inside far (L .end₁) d (L .end₁<) ld (L .holds₁) (inside d ld hd)) (linked lc (L .chain) (L .last))

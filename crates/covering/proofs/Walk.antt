@@ -56,7 +56,7 @@ left n q p = countBelow (4 * n) (between? q p)
 
 -- ---- the cells of a walk
 
--- cell c has a place of a walk strictly inside, and `Way` holds of that place
+-- cell c has a place of a walk, given by its field, strictly inside, and `Way` holds of it
 pub record Visited (Way : (ℕ → ℤ) → Type 0) (c : ℕ) : Type 0 where
   pub place : ℕ → ℤ
   pub way : Way place
@@ -252,7 +252,8 @@ module _ {X Y Z pc cc np n : ℕ} {t : Tables} (M : IsMesh X Y Z pc cc np n t) (
 
             term : (i : ℕ) → i < 4 → Dec (i ≡ k) → pos 0 ≤ℤ (y (4 * c + i) *ℤ side t (cornerAt t c i) (4 * across t f + l))
             term i hi (yes e) =
-                ≡→≤ (sym (ap (λ x. y (4 * c + x) *ℤ side t (cornerAt t c i) (4 * across t f + l)) e ∙ (ap (λ z. z *ℤ side t (cornerAt t c i) (4 * across t f + l)) zero-k ∙ zero-*ℤ (side t (cornerAt t c i) (4 * across t f + l)))))
+                ≡→≤ (sym (ap (λ x. y (4 * c + x) *ℤ side t (cornerAt t c i) (4 * across t f + l)) e ∙
+                (ap (λ z. z *ℤ side t (cornerAt t c i) (4 * across t f + l)) zero-k ∙ zero-*ℤ (side t (cornerAt t c i) (4 * across t f + l)))))
             term i hi (no e) =
                 *-nonneg (<→≤ (others i hi e))
                 (subst (λ z. pos 0 ≤ℤ z) (sym (side-at t (cornerAt t c i) (across t f) l hl))
@@ -319,7 +320,8 @@ module _ {X Y Z pc cc np n : ℕ} {t : Tables} (M : IsMesh X Y Z pc cc np n t) (
   -- a face that a walk leaves by lies before the cell beyond
   not-before : (f c : ℕ) → f < 4 * n → across t f ≢ none → pos 0 <ℤ p f → across t f ≡ c → InsideBy p c → ⊥
   not-before f c f< real ahead e i =
-      <-irrefl (≤-<-trans (<→≤ (subst (λ x. pos 0 <ℤ p x) (ap (λ x. 4 * x + opposite (mate t f)) (sym (mated M R f f< real .far-cell ∙ e)) ∙ face-eq (mate t f)) (i (opposite (mate t f)) (opposite< (mate t f)))))
+      <-irrefl (≤-<-trans
+      (<→≤ (subst (λ x. pos 0 <ℤ p x) (ap (λ x. 4 * x + opposite (mate t f)) (sym (mated M R f f< real .far-cell ∙ e)) ∙ face-eq (mate t f)) (i (opposite (mate t f)) (opposite< (mate t f)))))
       (subst (λ z. z <ℤ pos 0) (sym (Fp .mirror f f< real)) (neg-mono-< ahead)))
 
   -- two walks never meet

@@ -1,7 +1,7 @@
 -- The squared distance is not below 0, and 0 for the same position alone.
 use Prim.Native.Nat.{ℕ}
 use mathlib.Core.Logic.{_≢_, _⊎_, inl, inr}
-use mathlib.Core.Path.{_≡_, sym, ap, _∙_}
+use mathlib.Core.Path.{_≡_, sym, ap}
 use lib.IntN.{ℤ, pos, natAbs, _+ℤ_, _-ℤ_, _*ℤ_}
 use lib.Signed.{_<ℤ_, _≤ℤ_}
 use Rattle.arith.proofs.Integers.{eq-of-sub}

@@ -1,15 +1,16 @@
--- The sign of E: above 0 strictly inside the sphere, 0 on it, below 0 outside. First of one tetrahedron, then of two that share all corners but one.
+-- The sign of E: where the volume is above 0, so is E strictly inside the sphere, and below 0 outside. Of one tetrahedron; then of two that share all corners
+-- but one.
 use Prim.Native.Nat.{ℕ, _<_}
 use mathlib.Core.Logic.{_≢_, _⊎_, inl, inr}
-use mathlib.Core.Path.{_≡_, sym, ap, _∙_, subst}
+use mathlib.Core.Path.{_≡_, refl, sym, ap, _∙_, subst}
 use mathlib.Core.List.{[], _∷_}
 use native.Mathlib.Decide.{ℕ-discrete}
-use lib.IntN.{ℤ, pos, negℤ, _+ℤ_, _-ℤ_, _*ℤ_, *ℤ-zero}
+use lib.IntN.{ℤ, pos, _+ℤ_, _-ℤ_, _*ℤ_, *ℤ-zero, *ℤ-comm}
 use lib.Signed.{_<ℤ_, _≤ℤ_}
 use Rattle.arith.specs.Table.{sum}
-use Rattle.arith.proofs.Order.{arithℤ, parts-neg, parts-sub, ≡→≤, <→≤, <-irrefl, total, +-pos, +-nonpos, +-neg, *-nonneg, *-pos, *-neg-l, *-nonpos-r, *-nonpos-nonpos, cancel-pos}
-use Rattle.arith.proofs.Ring.{var, con, _⊕_, _⊗_, neg, ring}
-use Rattle.arith.proofs.Sums.{sum-neg, sum-nonneg, sum-pos}
+use Rattle.arith.proofs.Order.{arithℤ, parts-sub, ≡→≤, <→≤, <-irrefl, total, +-pos, +-nonpos, +-neg, *-nonneg, *-pos, *-neg-l, *-nonpos-r, *-nonpos-nonpos, cancel-pos}
+use Rattle.arith.proofs.Ring.{var, _⊕_, ring}
+use Rattle.arith.proofs.Sums.{sum-zero, sum-mono, sum-pos}
 use Rattle.geometry.specs.declared.Position.{Position}
 use Rattle.geometry.specs.Volume.{volume, replaced, squaredDistance}
 use Rattle.geometry.proofs.Distances.{distance-nonneg, distance-pos}
@@ -28,31 +29,26 @@ pub beyond-corner : (s : ℕ → Position) (p : Position) (j : ℕ) → pos 0 <�
 unfolding powerFrom
 beyond-corner s p j h each =
     subst (λ z. z ≤ℤ pos 0) (sym (power-from (s j) s p))
-    (less (sum 4 (λ k. volume (replaced s k p) *ℤ squaredDistance (s k) (s j))) (volume s *ℤ squaredDistance p (s j)) weights (*-nonneg (<→≤ h) (distance-nonneg p (s j))))
+    (less (sum 4 term) (volume s *ℤ squaredDistance p (s j))
+    (subst (λ z. sum 4 term ≤ℤ z) (sum-zero 4 (λ k. pos 0) (λ k l. refl)) (sum-mono 4 term (λ k. pos 0) (λ k l. go k l (ℕ-discrete k j))))
+    (*-nonneg (<→≤ h) (distance-nonneg p (s j))))
   where
-    less : (a b : ℤ) → pos 0 ≤ℤ negℤ a → pos 0 ≤ℤ b → (a -ℤ b) ≤ℤ pos 0
-    less a b x y = omega (arithℤ, parts-sub a b, parts-neg a)
+    term : ℕ → ℤ
+    term k = volume (replaced s k p) *ℤ squaredDistance (s k) (s j)
 
-    flip : (z : ℤ) → z ≤ℤ pos 0 → pos 0 ≤ℤ negℤ z
-    flip z x = omega (arithℤ, parts-neg z)
+    less : (a b : ℤ) → a ≤ℤ pos 0 → pos 0 ≤ℤ b → (a -ℤ b) ≤ℤ pos 0
+    less a b x y = omega (arithℤ, parts-sub a b)
 
-    weights : pos 0 ≤ℤ negℤ (sum 4 (λ k. volume (replaced s k p) *ℤ squaredDistance (s k) (s j)))
-    weights =
-        subst (λ z. pos 0 ≤ℤ z) (sum-neg 4 (λ k. volume (replaced s k p) *ℤ squaredDistance (s k) (s j)))
-        (sum-nonneg 4 (λ k. negℤ (volume (replaced s k p) *ℤ squaredDistance (s k) (s j))) (λ k l. go k l (ℕ-discrete k j)))
-      where
-        go : (k : ℕ) → k < 4 → Dec (k ≡ j) → pos 0 ≤ℤ negℤ (volume (replaced s k p) *ℤ squaredDistance (s k) (s j))
-        go k l (yes e) =
-            ≡→≤ (sym (ap (λ z. negℤ (volume (replaced s k p) *ℤ z)) (ap (λ m. squaredDistance (s m) (s j)) e ∙ distance-self (s j)) ∙
-            ring (neg (var 0 ⊗ con (pos 0))) (con (pos 0)) tt (volume (replaced s k p) ∷ [])))
-        go k l (no d) =
-            subst (λ z. pos 0 ≤ℤ z) (ring (neg (var 0) ⊗ var 1) (neg (var 0 ⊗ var 1)) tt (volume (replaced s k p) ∷ squaredDistance (s k) (s j) ∷ []))
-            (*-nonneg (flip (volume (replaced s k p)) (each k l d)) (distance-nonneg (s k) (s j)))
+    go : (k : ℕ) → k < 4 → Dec (k ≡ j) → term k ≤ℤ pos 0
+    go k l (yes e) = ≡→≤ (ap (λ z. volume (replaced s k p) *ℤ z) (ap (λ m. squaredDistance (s m) (s j)) e ∙ distance-self (s j)) ∙ *ℤ-zero (volume (replaced s k p)))
+    go k l (no d) =
+        subst (λ z. z ≤ℤ pos 0) (*ℤ-comm (squaredDistance (s k) (s j)) (volume (replaced s k p))) (*-nonpos-r (distance-nonneg (s k) (s j)) (each k l d))
 
--- ---- s and r share all corners but the one at place k of s
+-- ---- the corners of s lie on the sphere of r, but for the one at place k
 
-module _ (s r : ℕ → Position) (k : ℕ) (k< : k < 4) (shared : (i : ℕ) → i < 4 → i ≢ k → power r (s i) ≡ pos 0) (above-s : pos 0 <ℤ volume s) (above-r : pos 0 <ℤ volume r) where
-  -- from the sphere of s into that of r: not on the side of s
+module _ (s r : ℕ → Position) (k : ℕ) (k< : k < 4) (shared : (i : ℕ) → i < 4 → i ≢ k → power r (s i) ≡ pos 0)
+    (above-s : pos 0 <ℤ volume s) (above-r : pos 0 <ℤ volume r) where
+  -- what is not on the side of s and inside its sphere is inside that of r
   pub crosses-in : power r (s k) ≤ℤ pos 0 → (q : Position) → volume (replaced s k q) ≤ℤ pos 0 → pos 0 <ℤ power s q → pos 0 <ℤ power r q
   crosses-in e q b h =
       cancel-pos {a = volume s} (power r q) above-s

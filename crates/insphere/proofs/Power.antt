@@ -1,5 +1,5 @@
--- The sum E of four points and a fifth: their volume times the power of the fifth point, with the sign that is above 0 inside the sphere. The sums of two
--- tetrahedra differ by an affine function (`transfer`).
+-- The sum E of four points and a fifth: their volume times the power of the fifth point, with the sign that is above 0 inside the sphere. Times each other's
+-- volume, the sums of two tetrahedra differ by an affine function (D1).
 use Prim.Native.Nat.{ℕ, _+_, _*_, _<_}
 use mathlib.Core.Logic.{_≢_}
 use mathlib.Core.Path.{_≡_, refl, sym, ap, ap₂, _∙_}
@@ -118,6 +118,7 @@ from-transfer o s r q =
     at-corner : (l : ℕ) → l < 4 → sum 4 (λ k. volume (replaced s k q) *ℤ volume (replaced r l (s k))) ≡ volume s *ℤ volume (replaced r l q)
     at-corner l h = volume-interpolation s r q l h
 
+-- D1
 transfer : (s r : ℕ → Position) (q : Position) → volume s *ℤ power r q ≡ sum 4 (λ i. volume (replaced s i q) *ℤ power r (s i)) +ℤ volume r *ℤ power s q
 transfer s r q =
     ap (λ z. volume s *ℤ z) (power-from q r q) ∙

@@ -3,12 +3,11 @@ use Prim.Native.Nat.{ℕ, _*_, _≤_, _^_}
 use mathlib.Core.Bool.{Bool, true, false, _&&_, cond}
 use mathlib.Core.List.{[], _∷_}
 use mathlib.Core.Logic.{_⊎_, inl, inr}
-use mathlib.Core.Path.{_≡_, refl, sym, ap, _∙_, subst}
-use native.Mathlib.Nat.{le-trans}
+use mathlib.Core.Path.{_≡_, refl, subst}
 use native.Mathlib.Omega.{arith}
 use lib.Dec.{T, le→leb, lt→ltb, lit≤}
 use lib.IntN.{ℤ, pos, negsuc, natAbs}
-use lib.Signed.{ltZ, _<ℤ_}
+use lib.Signed.{ltZ}
 use lib.Ieee.{Float, lt, binary64, inFloat}
 use Rattle.arith.proofs.Order.{<-irrefl, <-trans, ltZ-true, lt-ltZ}
 use Rattle.arith.proofs.Flags.{split, holds, fails, and-left, and-right}

@@ -7,7 +7,7 @@ use mathlib.Core.List.{List}
 use native.Mathlib.Omega.{arith}
 use native.Mathlib.Decide.{ℕ-discrete, decLt}
 use borrow.Author.Tests.{not-true}
-use lib.IntN.{ℤ, pos}
+use lib.IntN.{pos}
 use lib.Signed.{_<ℤ_, _≤ℤ_}
 use Rattle.arith.proofs.Order.{<→≤, ≡→≤, <-irrefl, ≤-<-trans, total, neg-mono-<, neg-pos}
 use Rattle.geometry.specs.declared.Position.{Position}

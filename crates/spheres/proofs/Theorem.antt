@@ -2,7 +2,7 @@
 use Prim.Native.Nat.{ℕ, _+_, _*_, _≤_}
 use mathlib.Core.Bool.{true}
 use mathlib.Core.List.{List, [], _∷_, _++_}
-use mathlib.Core.Path.{_≡_, sym, ap, _∙_, subst}
+use mathlib.Core.Path.{_≡_, ap, _∙_, subst}
 use native.Mathlib.Omega.{arith}
 use lib.ListN.{length, length-append}
 use Rattle.geometry.specs.declared.Position.{Position}
@@ -17,8 +17,6 @@ use Rattle.mesh.proofs.Verdict.{passed}
 use Rattle.mesh.proofs.Faces.{mate-cell<}
 use Rattle.mesh.proofs.FaceNumbers.{opposite<, cell<}
 use Rattle.cavity.specs.Answers.{sphere, handed}
-use Rattle.cavity.specs.Cavity.{cavitySize, cavityOf, correctedCavity}
-use Rattle.star.specs.Star.{madeCount, newCount, star}
 use Rattle.insertion.specs.declared.Report.{Report}
 use Rattle.insertion.specs.declared.Inserted.the-variants.{Accepted}
 use Rattle.insertion.specs.Insertion.{firstCavity, lastCavity, cellsMade, nodeRefusal, reportOf, insertedMesh, insertedTables, insertCall}
@@ -101,18 +99,15 @@ module _ (X Y Z : ℕ) (t : Tables) (w : ℕ) (started : startRefusal X Y Z t w 
   R : Room (pointCapacity (b .tables)) (cellCapacity (b .tables) (room b)) (b .tables)
   R = room-of (b .tables) (room b)
 
-  -- DOCUMENT 02 §2, whatever the nodes and the work areas, and whatever calls were refused in between. Nodes inserted by handed-in answers
-  -- carry no such statement: a list in which such a call accepts a node is none of `OwnCalls`.
-  pub own-spheres : EmptySpheres b
-  own-spheres = record {
+  spheres-empty : EmptySpheres b
+  spheres-empty = record {
     far-corners = λ f l real.
         corner-out M′ R clear (cellOf (mate (b .tables) f)) (cellOf f) (opposite (mate (b .tables) f)) (mate-cell< M′ R f l real) (cell< f l) (opposite< (mate (b .tables) f));
     points = clear;
   }
 
-  -- and whatever node our own test lets in next
-  pub own-reports : EqualSizes b
-  own-reports = record { reported = λ v p q. reported v p q }
+  sizes-equal : EqualSizes b
+  sizes-equal = record { reported = λ v p q. reported v p q }
     where
       reported : (v : ℕ) (p : Position) {m : Mesh} {r : Report} → Accepted m r ≡ insertCall (b .mesh) (b .tables) v p sphere .answer → r .before ≡ r .after
       reported v p {m} {r} q =
@@ -123,3 +118,14 @@ module _ (X Y Z : ℕ) (t : Tables) (w : ℕ) (started : startRefusal X Y Z t w 
           s ∙ ap (λ l. l .answer) (node-accepted (b .mesh) (b .tables) v p sphere h) in
           let k : reportOf (b .mesh) (b .tables) p sphere ≡ r = cc in
           subst (λ x. x .before ≡ x .after) k (node-sizes (b .mesh) (b .tables) v p (passed (b .mesh) (b .tables) v _ z) h clear)
+
+-- DOCUMENT 02 §2, whatever the nodes and the work areas, and whatever calls were refused in between. Nodes inserted by handed-in answers carry no such
+-- statement: a list in which such a call accepts a node is none of `OwnCalls`.
+pub own-spheres : (X Y Z : ℕ) (t : Tables) (w : ℕ) → startRefusal X Y Z t w ≡ 0 → (cs : List Call) → OwnCalls (startBuild X Y Z t w) cs →
+    EmptySpheres (meshAfter (startBuild X Y Z t w) cs)
+own-spheres X Y Z t w e cs o = spheres-empty X Y Z t w e cs o
+
+-- and what is reported of whatever node our own test lets in next
+pub own-reports : (X Y Z : ℕ) (t : Tables) (w : ℕ) → startRefusal X Y Z t w ≡ 0 → (cs : List Call) → OwnCalls (startBuild X Y Z t w) cs →
+    EqualSizes (meshAfter (startBuild X Y Z t w) cs)
+own-reports X Y Z t w e cs o = sizes-equal X Y Z t w e cs o

@@ -1,7 +1,6 @@
 use native.Mathlib.Omega.{arith}
 use Rattle.arith.proofs.Machine.{back-64}
 use Rattle.insphere.proofs.Promises.{in-float}
-use borrow.Author.Needs.{needs}
 use Rattle.insphere.proofs.product.Statement.{statement}
 use Rattle.insphere.proofs.product.Tie as tie
 

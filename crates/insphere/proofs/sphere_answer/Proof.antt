@@ -1,10 +1,9 @@
 use mathlib.Core.Path.{_≡_, sym, ap, _∙_, subst}
-use mathlib.Core.Bool.{true, false}
 use lib.IntN.{pos}
 use lib.Signed.{ltZ}
 use Rattle.insphere.specs.declared.Sphere.the-variants.{Inside, Outside}
 use Rattle.insphere.specs.Sphere.{sphereSum, sphereT, sphereAnswer}
-use Rattle.insphere.specs.Inner.{TermsInRange, termsAt, exactSum, floatSum}
+use Rattle.insphere.specs.Inner.{TermsInRange, exactSum, floatSum}
 use Rattle.insphere.proofs.Promises.{terms-in, exact-at, float-at}
 use borrow.Author.Needs.{needs}
 use Rattle.insphere.proofs.sphere_answer.Statement.{statement}

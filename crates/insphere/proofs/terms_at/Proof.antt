@@ -1,7 +1,6 @@
 use mathlib.Core.Path.{ap}
-use Rattle.geometry.specs.Volume.{volume6, squaredDistance}
 use Rattle.geometry.specs.Inner.{volumesAt}
-use Rattle.geometry.proofs.ReadBack.{Held, held-volume, held-distance}
+use Rattle.geometry.proofs.ReadBack.{held-volume, held-distance}
 use Rattle.insphere.specs.Inner.{termsAt}
 use borrow.Author.Needs.{needs}
 use Rattle.insphere.proofs.terms_at.Statement.{statement}
