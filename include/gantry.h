@@ -39,10 +39,9 @@ extern "C" {
 #define GANTRY_FLAT_CELL 11     /* a sphere test on a cell of volume 0 or less */
 #define GANTRY_UNEQUAL_SIDES 19 /* the boxes of two files to be merged differ in a side */
 
-/* Sphere answers; 0 in a refusal. */
+/* Sphere answers; 0 in a refusal. 3 was 'close' up to version 0.4: it is retired, and never answered. */
 #define GANTRY_SPHERE_INSIDE 1
 #define GANTRY_SPHERE_OUTSIDE 2
-#define GANTRY_SPHERE_CLOSE 3
 
 #define GANTRY_NONE 65535                      /* in the neighbour table: no neighbour */
 #define GANTRY_VOLUME_NONE ((int64_t)1 << 62)  /* gantry_volume6 with a coordinate outside 0 to 131,072 */
@@ -61,7 +60,7 @@ typedef struct { uint8_t refusal; gantry_mesh mesh; } gantry_started;           
 typedef struct { uint8_t refusal; gantry_mesh mesh; uint32_t point, before, after, made; double least; } gantry_inserted;
 typedef struct { uint8_t refusal; gantry_mesh mesh; uint32_t place; } gantry_listed;      /* place: of the refused node, or how many went in */
 typedef struct { uint8_t refusal; uint32_t cell; } gantry_located;
-typedef struct { uint8_t refusal; uint8_t answer; double t; } gantry_sphere;              /* 1 inside, 2 outside, 3 close */
+typedef struct { uint8_t refusal; uint8_t answer; double t; } gantry_sphere;              /* 1 inside, 2 outside */
 typedef struct { uint8_t refusal; uint32_t x, y, z, count; } gantry_read;
 typedef struct { uint8_t refusal; uint32_t bytes; } gantry_written;
 
@@ -86,13 +85,21 @@ typedef struct { uint8_t refusal; uint32_t bytes; } gantry_written;
 gantry_started gantry_start(uint32_t x, uint32_t y, uint32_t z, GANTRY_TABLES);
 
 /*
- * Inserts one node, by the float sphere test. The answer has the node's point number, how many cells its cavity had before and
- * after correction, how many cells were made, and the least T over the cavity before correction. Cell numbers change: a cell number
- * from an earlier call is of no use afterwards. Point numbers stay, so a cell can be kept by its four corners. Refusals 1 to 8.
+ * Inserts one node, by the sphere test. The answer has the node's point number, how many cells its cavity had before and
+ * after correction, how many cells were made, and the least T over the cavity before correction; T is a float and may be 0 or
+ * below (see gantry_sphere_test). Cell numbers change: a cell number from an earlier call is of no use afterwards. Point numbers
+ * stay, so a cell can be kept by its four corners. Refusals 1 to 8.
+ *
+ * While all nodes since the start have gone in by the sphere test, here or in a list, no point of the mesh lies strictly inside the
+ * sphere of any cell, and the correction removes nothing: before and after are equal. Refused calls of any kind may stand between. That
+ * is proved in crates/spheres.
  */
 gantry_inserted gantry_insert(gantry_mesh mesh, GANTRY_TABLES, uint32_t x, uint32_t y, uint32_t z);
 
-/* The same by answers handed in, one byte a cell: nonzero where the node counts as inside the cell's sphere. least is 0.0. */
+/*
+ * The same by answers handed in, one byte a cell: nonzero where the node counts as inside the cell's sphere. least is 0.0. Any answers
+ * leave a mesh; but once a node has gone in so, nothing is promised of points and spheres.
+ */
 gantry_inserted gantry_insert_answers(gantry_mesh mesh, GANTRY_TABLES,
                                       const uint8_t *answers, size_t answers_len, uint32_t x, uint32_t y, uint32_t z);
 
@@ -140,8 +147,9 @@ int64_t gantry_volume6(int32_t ax, int32_t ay, int32_t az, int32_t bx, int32_t b
                        int32_t cx, int32_t cy, int32_t cz, int32_t dx, int32_t dy, int32_t dz);
 
 /*
- * Where p lies from the sphere through a, b, c, d, with T; close is within 2^39. T is a rounded sum: it lies within 2^39 of the
- * exact one, E, and beyond -2^39 to 2^39 it has E's sign. Refusals 4 11.
+ * Whether p lies strictly inside the sphere through a, b, c, d (1) or not (2); on the sphere it is not. The answer is exact: inside is
+ * where the whole number E of docs/MANUAL.md is above 0. t is T, the same sum in floats. It lies within 2^39 of E, so beyond -2^39 to
+ * 2^39 it has E's sign; nearer to 0 it may be 0 or have the other sign. Refusals 4 11.
  */
 gantry_sphere gantry_sphere_test(uint32_t ax, uint32_t ay, uint32_t az, uint32_t bx, uint32_t by, uint32_t bz,
                                  uint32_t cx, uint32_t cy, uint32_t cz, uint32_t dx, uint32_t dy, uint32_t dz,

@@ -1,5 +1,6 @@
-//! bench [ROUNDS], bench run BUILD WORK PASSES, bench works
+//! bench [ROUNDS], bench run BUILD WORK PASSES, bench works, bench asked
 
+mod asked;
 mod nodes;
 mod timing;
 mod work;
@@ -14,6 +15,7 @@ use work::{Work, ENTRIES};
 const USAGE: &str = "usage: bench [ROUNDS]                  times of all builds on all works, as a Markdown table
        bench run BUILD WORK PASSES    only so many passes, for a counter of instructions
        bench works                    the works: name, unit, units a pass, passes to count, bar, title
+       bench asked                    the lists: cells asked by the sphere test, and those that are close
 BUILD is plain, tuned or archive.";
 
 const PLAIN: Plain = Plain::RIGHT;
@@ -97,6 +99,19 @@ fn works() {
     }
 }
 
+fn asked() {
+    println!("| work | cells asked a node | close |");
+    println!("|---|---|---|");
+    for entry in ENTRIES {
+        let work = entry.work();
+        if let Some(set) = work.list() {
+            let asked = asked::asked(set);
+            let [cells, close] = [asked.cells, asked.close].map(|n| n as f64 / work.units as f64);
+            println!("| {} | {cells:.1} | {close:.2} |", entry.title);
+        }
+    }
+}
+
 fn main() -> ExitCode {
     let words: Vec<String> = std::env::args().skip(1).collect();
     let words: Vec<&str> = words.iter().map(String::as_str).collect();
@@ -105,6 +120,10 @@ fn main() -> ExitCode {
         [] => table(25),
         ["works"] => {
             works();
+            Ok(())
+        }
+        ["asked"] => {
+            asked();
             Ok(())
         }
         ["run", build, work, passes] => run(build, work, passes).ok_or_else(wrong),

@@ -25,18 +25,28 @@ pub fn random(count: usize) -> Set {
     }
 }
 
-/// So many nodes along each side, x running fastest, without the box corners.
-pub fn lattice(along: u32) -> Set {
-    let last = along - 1;
-    let spacing = SIDE_LIMIT / last;
-    let nodes = (0..along * along * along)
-        .map(|k| [k % along, k / along % along, k / (along * along)])
-        .filter(|p| p.iter().any(|&n| n != 0 && n != last))
-        .map(|p| p.map(|n| n * spacing));
+/// So many nodes along each side at even steps, x running fastest, without the box corners.
+fn grid(along: Position, step: u32) -> Set {
+    let [x, y, z] = along;
+    let sides = along.map(|count| (count - 1) * step);
+    let is_corner = |p: &Position| (0..3).all(|axis| p[axis] == 0 || p[axis] == sides[axis]);
+    let nodes = (0..x * y * z)
+        .map(|k| [k % x, k / x % y, k / (x * y)].map(|n| n * step))
+        .filter(|p| !is_corner(p));
     Set {
-        sides: [last * spacing; 3],
+        sides,
         nodes: nodes.collect(),
     }
+}
+
+/// In a cube, or nearly: the step is a whole number.
+pub fn lattice(along: u32) -> Set {
+    grid([along; 3], SIDE_LIMIT / (along - 1))
+}
+
+/// The same nodes in the smallest box: all sums are close to 0.
+pub fn small_lattice(along: u32) -> Set {
+    grid([along; 3], 1)
 }
 
 /// In consecutive steps along x.
@@ -73,6 +83,11 @@ pub fn walls() -> Set {
         sides: CUBE,
         nodes: (0..1_016).map(node).collect(),
     }
+}
+
+/// A long machine. The step is no power of two, so products are rounded.
+pub fn even_bed() -> Set {
+    grid([26, 4, 4], 5_000)
 }
 
 /// A long machine, measured from one end to the other.

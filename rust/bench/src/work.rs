@@ -35,11 +35,13 @@ const fn entry(
 }
 
 #[rustfmt::skip]
-pub const ENTRIES: [Entry; 23] = [
+pub const ENTRIES: [Entry; 25] = [
     entry("random", "620 random nodes", Some(2.0), || list(nodes::random(620))),
     entry("lattice", "lattice 9×9×9", Some(2.0), || list(nodes::lattice(9))),
+    entry("lattice-8", "lattice 9×9×9 in a cube of side 8", Some(2.0), || list(nodes::small_lattice(9))),
     entry("walls", "1,016 nodes on walls", Some(2.0), || list(nodes::walls())),
     entry("bed", "600 nodes along a bed", Some(2.0), || list(nodes::bed())),
+    entry("even-bed", "evenly spaced bed, 26×4×4", Some(2.0), || list(nodes::even_bed())),
     entry("random-100", "first 100 random nodes", Some(2.0), || list(nodes::random(100))),
     entry("random-200", "first 200 random nodes", Some(2.0), || list(nodes::random(200))),
     entry("random-400", "first 400 random nodes", Some(2.0), || list(nodes::random(400))),
@@ -196,6 +198,14 @@ fn at_a_point(mesh: &Loaded) -> Vec<Position> {
 }
 
 impl Work {
+    /// The nodes of a list.
+    pub fn list(&self) -> Option<&Set> {
+        match &self.kind {
+            Kind::List(set) => Some(set),
+            _ => None,
+        }
+    }
+
     pub fn pass(&mut self, build: &dyn Builder) -> Answer {
         let (mesh, tables) = (self.mesh, &mut self.tables.lend());
         match &self.kind {

@@ -385,10 +385,15 @@ gantry: position 0 -1 0: refused 4 (outside): the box is 4 4 4
     let far = place.run("volume 0 0 0 4 0 0 4 4 0 4 4 131073", b"");
     far.refused(1, "gantry: a coordinate is outside 0 to 131,072\n");
     let sphere = |p: &str| place.run(&format!("sphere {four} {p}"), b"");
-    assert_eq!(sphere("2 2 2").done(), "close, T = 768, yes\n");
-    assert_eq!(sphere("0 0 0").done(), "close, T = 0, no\n");
+    assert_eq!(sphere("2 2 2").done(), "inside, T = 768\n");
+    assert_eq!(sphere("0 0 0").done(), "outside, T = 0\n");
     let outside = sphere("131072 131072 131072").done();
-    assert!(outside.starts_with("outside, T = -") && outside.ends_with(", no\n"));
+    assert!(outside.starts_with("outside, T = -"));
+    // A tie, and a sum that the float has with another sign.
+    let tie = "sphere 0 0 0 3500 3500 0 0 3500 0 120 520 3370 3380 520 3370";
+    assert_eq!(place.run(tie, b"").done(), "outside, T = 128\n");
+    let near = "sphere 0 0 0 115625 2556 1400 120000 0 0 10122 6325 1013 7461 3986 2802";
+    assert_eq!(place.run(near, b"").done(), "inside, T = -2773504\n");
     sphere("0 -1 0").refused(
         1,
         "gantry: refused 4 (outside): a coordinate is outside 0 to 131,072\n",

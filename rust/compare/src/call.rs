@@ -162,7 +162,7 @@ impl Call {
             Call::Volume6(twelve) => Answer::Volume(builder.volume6(twelve)),
             Call::SphereTest(corners, p) => Answer::Sphere(builder.sphere_test(corners, p)),
             Call::Start(sides) => Answer::Started(builder.start(sides, lent)),
-            Call::Insert(p) => Answer::Inserted(builder.insert(mesh, lent, Answers::Float, p)),
+            Call::Insert(p) => Answer::Inserted(builder.insert(mesh, lent, Answers::SphereTest, p)),
             Call::InsertAnswers(_, p) => {
                 let answers = Answers::Given(input.lent());
                 Answer::Inserted(builder.insert(mesh, lent, answers, p))

@@ -6,6 +6,7 @@ use plain::{Mesh, Owned, Position, CELL_LIMIT, NONE, POINT_LIMIT, SIDE_LIMIT};
 use crate::call::{Call, Left};
 use crate::merges;
 use crate::nodes::{self, Spread};
+use crate::spheres::{sphere_test, NearTie, NEAR_TIES};
 
 /// One call and what it is lent.
 pub struct Step {
@@ -21,6 +22,8 @@ pub struct History {
     spread: Spread,
     mesh: Mesh,
     tables: Owned,
+    /// In few histories: its nodes go in first.
+    near_tie: Option<&'static NearTie>,
     /// The position of the last locate call.
     parked: Option<Position>,
     calls_left: u64,
@@ -30,15 +33,20 @@ pub struct History {
 impl History {
     pub fn new(random: &mut Random) -> History {
         let tables = tables(random);
-        let sides = match tables.points.len() >= 3 * POINT_LIMIT {
-            true => [SIDE_LIMIT; 3],
-            false => nodes::sides(random),
+        let is_long = tables.points.len() >= 3 * POINT_LIMIT;
+        let near_tie = &NEAR_TIES[random.index(NEAR_TIES.len())];
+        let near_tie = Some(near_tie).filter(|_| !is_long && random.one_in(30));
+        let sides = match near_tie {
+            Some(tie) => tie.sides,
+            None if is_long => [SIDE_LIMIT; 3],
+            None => nodes::sides(random),
         };
         History {
             sides,
             spread: nodes::spread(random),
             mesh: Mesh::default(),
             tables,
+            near_tie,
             parked: None,
             calls_left: 5 + random.below(40),
             is_begun: false,
@@ -96,6 +104,13 @@ impl History {
     }
 
     fn call(&self, random: &mut Random) -> Call {
+        if let Some(call) = self.of_near_tie(random) {
+            return call;
+        }
+        // Few meshes have numbers of points that take more than a byte.
+        if self.mesh.points > 256 && random.one_in(3) {
+            return Call::Locate(self.located(random));
+        }
         let p = self.node(random);
         match random.below(42) {
             0 => Call::Start(nodes::any_sides(random)),
@@ -109,6 +124,17 @@ impl History {
             16..20 => self.list(random),
             20..28 => Call::Insert(p),
             _ => Call::InsertAnswers(nodes::answers(random, self.mesh.cells as usize), p),
+        }
+    }
+
+    /// The next node of the near tie, or all that are left, by the sphere test; now and then another call comes between.
+    fn of_near_tie(&self, random: &mut Random) -> Option<Call> {
+        let rest = self.near_tie?.rest(self.mesh)?;
+        let &next = rest.first()?;
+        match random.below(16) {
+            0..4 => None,
+            4..7 => Some(Call::InsertList(rest.as_flattened().to_vec())),
+            _ => Some(Call::Insert(next)),
         }
     }
 
@@ -173,17 +199,6 @@ fn twelve(random: &mut Random) -> [i32; 12] {
         numbers[random.index(12)] = random.pick(&[-1, 131_072, 131_073, i32::MIN, i32::MAX]);
     }
     numbers
-}
-
-fn sphere_test(random: &mut Random) -> Call {
-    let limit = random.pick(&[3, 5, 17, 131_073]);
-    let position = |random: &mut Random| [0; 3].map(|_| random.below(limit) as u32);
-    let corners = [0; 4].map(|_| position(random));
-    let mut p = position(random);
-    if random.one_in(8) {
-        p[random.index(3)] = random.pick(&[131_072, 131_073, u32::MAX]);
-    }
-    Call::SphereTest(corners, p)
 }
 
 /// Tight, roomy, whole or over-long tables, with entries to spare and any content.

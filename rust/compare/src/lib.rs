@@ -9,6 +9,7 @@ pub mod merges;
 pub mod nodes;
 pub mod run;
 pub mod script;
+pub mod spheres;
 pub mod stop;
 pub mod tally;
 

@@ -30,7 +30,7 @@ pub fn spread(random: &mut Random) -> Spread {
 fn side(random: &mut Random) -> u32 {
     let small = 1 + random.below(6) as u32;
     let any = 1 + random.below(SIDE_LIMIT as u64) as u32;
-    random.pick(&[1, small, small, 4, 4, 16, 100, any, SIDE_LIMIT])
+    random.pick(&[1, small, small, 4, 4, 16, 100, 256, any, any, SIDE_LIMIT])
 }
 
 /// From 1 × 1 × 1 to 131,072 a side; half of them cubes.
@@ -106,16 +106,21 @@ pub fn inside(random: &mut Random, sides: Position, spread: Spread) -> Position 
     }
 }
 
-/// A position that may repeat a point or lie outside.
+/// A position that may repeat a point, lie outside, or be a point's mirror image in the middle of the box: evenly spaced nodes,
+/// on the spheres of cells with box corners.
 pub fn node(random: &mut Random, sides: Position, spread: Spread, points: &[u32]) -> Position {
     let mut p = inside(random, sides, spread);
     if random.one_in(25) {
         let axis = random.index(3);
         let far = random.bits() as u32;
         p[axis] = random.pick(&[sides[axis].saturating_add(1), u32::MAX, far]);
-    } else if random.one_in(25) && points.len() >= 3 {
+    } else if random.one_in(8) && points.len() >= 3 {
         let point = 3 * random.index(points.len() / 3);
         p = [points[point], points[point + 1], points[point + 2]];
+        if random.below(3) != 0 {
+            let axis = random.index(3);
+            p[axis] = sides[axis].saturating_sub(p[axis]);
+        }
     }
     p
 }

@@ -186,7 +186,7 @@ impl Script {
 impl Line {
     fn play(&self, build: &dyn Builder, mesh: &mut Mesh, tables: &mut Owned) -> String {
         let (answers, node) = match self {
-            Line::Sphere(node) => (Answers::Float, *node),
+            Line::Sphere(node) => (Answers::SphereTest, *node),
             Line::Answers(bytes, node) => (Answers::Given(bytes), *node),
             Line::Locate(p) => return located(build, *mesh, tables, *p),
             Line::Check => {

@@ -65,7 +65,9 @@ impl Builder for Harmed {
     fn insert(&self, mesh: Mesh, tables: &mut Tables, answers: Answers, p: Position) -> Inserted {
         let mut answer = Tuned.insert(mesh, tables, answers, p);
         match (self.0, answers) {
-            (Harm::Record, Answers::Float) if answer.refusal != 0 => answer.mesh = Mesh::default(),
+            (Harm::Record, Answers::SphereTest) if answer.refusal != 0 => {
+                answer.mesh = Mesh::default()
+            }
             (Harm::Sign, Answers::Given(_)) => answer.least = -answer.least,
             _ => {}
         }

@@ -112,9 +112,9 @@ impl Bed<'_> {
 /// The cells of the corrected cavities of the first nodes of a call, by the plain build.
 fn replaced(call: &Call, mut mesh: Mesh, mut tables: Owned, count: usize) -> BTreeSet<Corners> {
     let (answers, nodes) = match call {
-        Call::Insert(p) => (Answers::Float, vec![*p]),
+        Call::Insert(p) => (Answers::SphereTest, vec![*p]),
         Call::InsertAnswers(bytes, p) => (Answers::Given(bytes), vec![*p]),
-        Call::InsertList(numbers) => (Answers::Float, numbers.as_chunks().0.to_vec()),
+        Call::InsertList(numbers) => (Answers::SphereTest, numbers.as_chunks().0.to_vec()),
         _ => panic!("not an insertion"),
     };
     let mut all = BTreeSet::new();

@@ -40,7 +40,7 @@ fn each_is_found_by_tuned() {
 #[test]
 fn each_answers_to_the_end() {
     for build in wrong::ALL {
-        if let Err(stop) = run(&Plain::wrong(build), &Plain::wrong(build), 1, 3_000) {
+        if let Err(stop) = run(&Plain::wrong(build), &Plain::wrong(build), 3, 2_000) {
             // Folded pairs leave positions that no cell holds.
             assert_eq!(build.name, "far-side-left-out");
             assert!(!stop.is_difference && stop.what.starts_with("answer: 7 to "));

@@ -20,29 +20,22 @@ pub fn volume6(corners: [[i32; 3]; 4]) -> Option<i64> {
     }
 }
 
-/// Where a position lies to the sphere through a cell's corners. Each case carries the float sum T of document 01,
-/// which is within 2^39 of the exact sum.
+/// Where a position lies to the sphere through a cell's corners: by the sign of a whole number E, which is worked out exactly.
+/// Each case carries T, the same sum in floats. It is within 2^39 of E, and so may have another sign where it is close to 0.
 #[derive(Clone, Copy, Debug, PartialEq)]
 pub enum SphereAnswer {
-    /// T is above 2^39: strictly inside.
+    /// E is above 0: strictly inside.
     Inside(f64),
-    /// T is below −2^39: strictly outside.
+    /// E is 0 or below: on the sphere or outside.
     Outside(f64),
-    /// T is too small to tell.
-    Close(f64),
 }
 
 impl SphereAnswer {
     /// The float sum.
     pub fn t(self) -> f64 {
         match self {
-            SphereAnswer::Inside(t) | SphereAnswer::Outside(t) | SphereAnswer::Close(t) => t,
+            SphereAnswer::Inside(t) | SphereAnswer::Outside(t) => t,
         }
-    }
-
-    /// What an insertion takes it for: T above 0.
-    pub fn is_yes(self) -> bool {
-        self.t() > 0.0
     }
 }
 
@@ -53,9 +46,9 @@ impl SphereAnswer {
 /// use gantry::{sphere_test, Refusal, SphereAnswer};
 ///
 /// let cell = [[0, 0, 0], [0, 4, 4], [0, 0, 4], [4, 4, 4]];
-/// let answer = sphere_test(cell, [1, 2, 3])?;
-/// assert_eq!(answer, SphereAnswer::Close(640.0));
-/// assert!(answer.is_yes());
+/// assert_eq!(sphere_test(cell, [1, 2, 3])?, SphereAnswer::Inside(640.0));
+/// // A box corner that is not the cell's: on the sphere, as all eight are.
+/// assert_eq!(sphere_test(cell, [4, 0, 0])?, SphereAnswer::Outside(0.0));
 /// let flat = [cell[0], cell[0], cell[2], cell[3]];
 /// assert_eq!(sphere_test(flat, [1, 2, 3]), Err(Refusal::FlatCell));
 /// # Ok::<(), Refusal>(())
@@ -63,9 +56,10 @@ impl SphereAnswer {
 pub fn sphere_test(corners: [Position; 4], p: Position) -> Result<SphereAnswer, Refusal> {
     let answer = raw::sphere_test(corners, p);
     accepted(answer.refusal)?;
-    Ok(match answer.answer {
-        1 => SphereAnswer::Inside(answer.t),
-        2 => SphereAnswer::Outside(answer.t),
-        _ => SphereAnswer::Close(answer.t),
-    })
+    match answer.answer {
+        1 => Ok(SphereAnswer::Inside(answer.t)),
+        2 => Ok(SphereAnswer::Outside(answer.t)),
+        // The archive is proved to answer no other number. Before 0.5 it had a third.
+        number => panic!("{number} is no sphere answer"),
+    }
 }

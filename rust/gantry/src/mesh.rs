@@ -50,7 +50,8 @@ pub struct Report {
     pub after: usize,
     /// How many cells were made.
     pub made: usize,
-    /// The least float sum T of the sphere test over the cavity before correction; 0 for answers handed in.
+    /// The least float sum T of the sphere test over the cavity before correction; 0 for answers handed in. The test goes by
+    /// the exact sum: T may be 0 or below.
     pub least: f64,
 }
 
@@ -144,8 +145,11 @@ impl Mesh {
         })
     }
 
-    /// Inserts one node by the float sphere test. Refused with [`Refusal::Outside`], [`Refusal::Taken`],
+    /// Inserts one node by the sphere test. Refused with [`Refusal::Outside`], [`Refusal::Taken`],
     /// [`Refusal::PointsFull`] or [`Refusal::CellsFull`].
+    ///
+    /// While all nodes since the start have gone in by the sphere test, here or in a [list](Mesh::insert_list), no point of
+    /// the mesh lies strictly inside the sphere of any cell, and the correction removes nothing.
     ///
     /// ```
     /// use gantry::Mesh;
@@ -162,8 +166,8 @@ impl Mesh {
     }
 
     /// Inserts one node by answers handed in: a byte a cell, nonzero where the node counts as inside the cell's sphere.
-    /// Any answers leave a mesh. Refused as [`insert`](Mesh::insert) is, and with [`Refusal::Short`] for fewer bytes than
-    /// cells.
+    /// Any answers leave a mesh; but of points and spheres nothing is promised then. Refused as [`insert`](Mesh::insert) is,
+    /// and with [`Refusal::Short`] for fewer bytes than cells.
     ///
     /// ```
     /// use gantry::Mesh;

@@ -67,7 +67,7 @@ pub struct Inserted {
     pub after: u32,
     /// How many cells were made.
     pub made: u32,
-    /// The least T over the cavity before correction; 0 for answers handed in.
+    /// The least T over the cavity before correction, a float that may be 0 or below; 0 for answers handed in.
     pub least: f64,
 }
 
@@ -99,7 +99,7 @@ pub struct Located {
 pub struct Sphere {
     /// 0 for accepted, else the refusal's number.
     pub refusal: u8,
-    /// 1 inside, 2 outside, 3 close.
+    /// 1 inside, 2 outside; 3 is retired, and never answered.
     pub answer: u8,
     /// The float sum T.
     pub t: f64,
@@ -230,7 +230,7 @@ pub fn volume6([a, b, c, d]: [[i32; 3]; 4]) -> i64 {
     )
 }
 
-/// `gantry_sphere_test`: where a position lies to the sphere through four corners. Refusals 4 11.
+/// `gantry_sphere_test`: whether a position lies strictly inside the sphere through four corners. Refusals 4 11.
 pub fn sphere_test([a, b, c, d]: [Position; 4], p: Position) -> Sphere {
     gantry_sphere_test(
         a[0], a[1], a[2], b[0], b[1], b[2], c[0], c[1], c[2], d[0], d[1], d[2], p[0], p[1], p[2],
@@ -242,7 +242,7 @@ pub fn start([x, y, z]: Position, tables: &mut Tables) -> Started {
     call!(gantry_start(x, y, z; tables;))
 }
 
-/// `gantry_insert`: one node, by the float sphere test. Refusals 1 to 8.
+/// `gantry_insert`: one node, by the sphere test. Refusals 1 to 8.
 pub fn insert(mesh: Record, tables: &mut Tables, [x, y, z]: Position) -> Inserted {
     call!(gantry_insert(mesh; tables; x, y, z))
 }

@@ -137,8 +137,26 @@ fn sphere_answers() {
     let small = [[0, 0, 0], [9, 0, 0], [0, 9, 0], [0, 0, 9]];
     let outside = sphere_test(small, [side; 3]).unwrap();
     assert!(matches!(outside, SphereAnswer::Outside(t) if t < 0.0));
-    assert!(!outside.is_yes());
     assert_eq!(sphere_test(small, [side + 1, 0, 0]), Err(Refusal::Outside));
+    // A tie, though T is above 0, and E above 0, though T is below it.
+    let tie = [[0; 3], [3_500, 3_500, 0], [0, 3_500, 0], [120, 520, 3_370]];
+    let answer = SphereAnswer::Outside(128.0);
+    assert_eq!(sphere_test(tie, [3_380, 520, 3_370]), Ok(answer));
+    let [q, r] = [[10_122, 6_325, 1_013], [115_625, 2_556, 1_400]];
+    let near = [[0; 3], r, [120_000, 0, 0], q];
+    let answer = SphereAnswer::Inside(-2_773_504.0);
+    assert_eq!(sphere_test(near, [7_461, 3_986, 2_802]), Ok(answer));
+}
+
+/// In the box of that last cell: T is below 0 for a cell that its third node takes the place of.
+#[test]
+fn a_least_t_below_0() {
+    let mut mesh = Mesh::start(120_000, 8_000, 8_000).unwrap();
+    let nodes = [[10_122, 6_325, 1_013], [115_625, 2_556, 1_400]];
+    assert_eq!(mesh.insert_list(&nodes), Ok(2));
+    let report = mesh.insert([7_461, 3_986, 2_802]).unwrap();
+    assert_eq!((report.before, report.after), (9, 9));
+    assert_eq!(report.least, -2_773_504.0);
 }
 
 #[test]

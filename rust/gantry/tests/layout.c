@@ -47,6 +47,9 @@ SIZE(gantry_written, 8);
 AT(gantry_written, refusal, 0);
 AT(gantry_written, bytes, 4);
 
+static_assert(GANTRY_SPHERE_INSIDE == 1, "GANTRY_SPHERE_INSIDE");
+static_assert(GANTRY_SPHERE_OUTSIDE == 2, "GANTRY_SPHERE_OUTSIDE");
+
 /* A second declaration is an error where it differs from the header's; in C++ only with C linkage, else it is an overload. */
 #ifdef __cplusplus
 extern "C" {

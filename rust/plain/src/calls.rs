@@ -151,7 +151,6 @@ pub struct Located {
 
 pub const INSIDE: u8 = 1;
 pub const OUTSIDE: u8 = 2;
-pub const CLOSE: u8 = 3;
 
 #[repr(C)]
 #[derive(Clone, Copy, Debug, Default, PartialEq)]

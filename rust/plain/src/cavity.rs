@@ -1,14 +1,14 @@
 //! Base, cavity (document 01: spot) and its correction.
 
 use crate::calls::Position;
-use crate::geometry::{sphere_sum, SphereAnswer};
+use crate::geometry::{float_sum, is_inside};
 use crate::loaded::{others, Loaded};
 use crate::rules::Rules;
 
 /// Where the insertion's yes or no comes from.
 #[derive(Clone, Copy)]
 pub enum Answers<'a> {
-    Float,
+    SphereTest,
     /// One byte a cell; nonzero is yes.
     Given(&'a [u8]),
 }
@@ -78,22 +78,18 @@ impl<'a> Cavity<'a> {
 
     fn is_yes(&self, c: usize, answers: Answers) -> bool {
         match answers {
-            Answers::Float => SphereAnswer::of(self.sphere_sum(c)).is_yes(),
+            Answers::SphereTest => is_inside(self.rules, self.mesh.positions(c), self.p),
             Answers::Given(bytes) => bytes[c] != 0,
         }
-    }
-
-    fn sphere_sum(&self, c: usize) -> f64 {
-        sphere_sum(self.mesh.positions(c), self.p)
     }
 
     /// "The least T over the spot before correction (0.0 for answers handed in)."
     pub fn least(&self, answers: Answers) -> f64 {
         match answers {
-            Answers::Float => self
+            Answers::SphereTest => self
                 .cells()
                 .iter()
-                .map(|&c| self.sphere_sum(c))
+                .map(|&c| float_sum(self.mesh.positions(c), self.p))
                 .fold(f64::INFINITY, f64::min),
             Answers::Given(_) => 0.0,
         }

@@ -1,6 +1,7 @@
 //! The volume and sphere tests.
 
-use crate::calls::{Position, Sphere, CLOSE, INSIDE, OUTSIDE, SIDE_LIMIT};
+use crate::calls::{Position, Sphere, INSIDE, OUTSIDE, SIDE_LIMIT};
+use crate::rules::{RightRules, Rules};
 
 /// What `volume6` answers for a coordinate out of range.
 pub const OUT_OF_RANGE: i64 = 1 << 62;
@@ -34,58 +35,30 @@ pub fn squared_distance(a: Position, p: Position) -> i128 {
     square(0) + square(1) + square(2)
 }
 
+/// E: "P is strictly inside the cell's sphere when E = sum of v_i × L_i is above 0."
+pub fn exact_sum(corners: [Position; 4], p: Position) -> i128 {
+    let term = |i: usize| side(corners, i, p) * squared_distance(corners[i], p);
+    term(0) + term(1) + term(2) + term(3)
+}
+
 /// T, with one rounding per operation.
-pub fn sphere_sum(corners: [Position; 4], p: Position) -> f64 {
+pub fn float_sum(corners: [Position; 4], p: Position) -> f64 {
     let v = [0, 1, 2, 3].map(|i| side(corners, i, p) as f64);
     let l = corners.map(|a| squared_distance(a, p) as f64);
     ((v[0] * l[0] + v[1] * l[1]) + v[2] * l[2]) + v[3] * l[3]
 }
 
-/// The sphere answer; each case carries T.
-#[derive(Clone, Copy, Debug, PartialEq)]
-pub enum SphereAnswer {
-    Inside(f64),
-    Outside(f64),
-    Close(f64),
-}
-
-impl SphereAnswer {
-    pub fn of(t: f64) -> SphereAnswer {
-        let bound = (1u64 << 39) as f64;
-        if t > bound {
-            SphereAnswer::Inside(t)
-        } else if t < -bound {
-            SphereAnswer::Outside(t)
-        } else {
-            SphereAnswer::Close(t)
-        }
-    }
-
-    /// "It counts as yes when T is above 0."
-    pub fn is_yes(self) -> bool {
-        match self {
-            SphereAnswer::Inside(_) => true,
-            SphereAnswer::Outside(_) => false,
-            SphereAnswer::Close(t) => t > 0.0,
-        }
-    }
-
-    /// The answer of the C interface.
-    pub fn report(self) -> Sphere {
-        let (answer, t) = match self {
-            SphereAnswer::Inside(t) => (INSIDE, t),
-            SphereAnswer::Outside(t) => (OUTSIDE, t),
-            SphereAnswer::Close(t) => (CLOSE, t),
-        };
-        Sphere {
-            refusal: 0,
-            answer,
-            t,
-        }
-    }
+/// Of a cell of positive volume.
+pub fn is_inside(rules: &dyn Rules, corners: [Position; 4], p: Position) -> bool {
+    rules.is_inside(exact_sum(corners, p), float_sum(corners, p))
 }
 
 pub fn sphere_test(corners: [Position; 4], p: Position) -> Sphere {
+    sphere_test_with(&RightRules, corners, p)
+}
+
+/// "Inside means E above 0, outside means the rest, and T is still carried."
+pub fn sphere_test_with(rules: &dyn Rules, corners: [Position; 4], p: Position) -> Sphere {
     let refused = |refusal| Sphere {
         refusal,
         ..Sphere::default()
@@ -97,5 +70,13 @@ pub fn sphere_test(corners: [Position; 4], p: Position) -> Sphere {
     if volume(corners) <= 0 {
         return refused(11);
     }
-    SphereAnswer::of(sphere_sum(corners, p)).report()
+    let answer = match is_inside(rules, corners, p) {
+        true => INSIDE,
+        false => OUTSIDE,
+    };
+    Sphere {
+        refusal: 0,
+        answer,
+        t: float_sum(corners, p),
+    }
 }

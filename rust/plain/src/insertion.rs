@@ -9,7 +9,7 @@ use crate::rules::{RightRules, Rules};
 use crate::star::star;
 
 pub fn insert(mesh: Mesh, tables: &mut Tables, p: Position) -> Inserted {
-    insert_with(&RightRules, mesh, tables, Answers::Float, p)
+    insert_with(&RightRules, mesh, tables, Answers::SphereTest, p)
 }
 
 pub fn insert_answers(mesh: Mesh, tables: &mut Tables, answers: &[u8], p: Position) -> Inserted {
@@ -29,7 +29,7 @@ pub fn insert_with(
     p: Position,
 ) -> Inserted {
     let answer_bytes = match answers {
-        Answers::Float => usize::MAX,
+        Answers::SphereTest => usize::MAX,
         Answers::Given(bytes) => bytes.len(),
     };
     let answer = match mesh_refusal(rules, mesh, tables, answer_bytes) {
@@ -63,7 +63,7 @@ fn insert_nodes(rules: &dyn Rules, mut mesh: Mesh, tables: &mut Tables, nodes: &
     let mut place = 0;
     for node in nodes.chunks_exact(3) {
         let p = [node[0], node[1], node[2]];
-        let inserted = insert_in_mesh(rules, mesh, tables, Answers::Float, p);
+        let inserted = insert_in_mesh(rules, mesh, tables, Answers::SphereTest, p);
         if inserted.refusal != 0 {
             return Listed {
                 refusal: inserted.refusal,

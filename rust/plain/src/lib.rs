@@ -17,7 +17,7 @@ pub mod star;
 
 pub use calls::*;
 pub use check::{check, check_with};
-pub use geometry::{sphere_test, volume6, OUT_OF_RANGE};
+pub use geometry::{sphere_test, sphere_test_with, volume6, OUT_OF_RANGE};
 pub use insertion::{insert, insert_answers, insert_list, insert_list_with, insert_with, Answers};
 pub use listing::listing;
 pub use merge::{merge, merge_with};

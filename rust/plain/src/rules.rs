@@ -5,6 +5,11 @@ use crate::calls::Position;
 use crate::cavity::{Candidate, Cavity, Face};
 
 pub trait Rules {
+    /// "Inside means E above 0, outside means the rest": T, the same sum in floats, has no part in it.
+    fn is_inside(&self, e: i128, _t: f64) -> bool {
+        e > 0
+    }
+
     /// "Flat if it has no neighbour and P lies in its plane; seen if P lies strictly on its cell's side": `side` is P's,
     /// above 0 on the cell's side and 0 in the plane.
     fn outer_face(&self, side: i128, has_neighbour: bool) -> Face {

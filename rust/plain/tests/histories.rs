@@ -47,7 +47,7 @@ fn node(random: &mut Random, kind: Nodes, sides: Position) -> Position {
     }
 }
 
-/// Float, all yes, all no, or random bytes.
+/// By the sphere test, or all yes, all no, or random bytes.
 fn insert_somehow(kit: &mut Kit, random: &mut Random, p: Position) -> plain::Inserted {
     let cells = kit.mesh.cells as usize;
     match random.below(4) {

@@ -1,10 +1,10 @@
-//! Document 01's test pieces.
+//! Document 01's test pieces, with "the piece that read close reads inside" of document 02.
 
 mod common;
 
 use common::Kit;
 use plain::nodefile::encode;
-use plain::{Inserted, Mesh, Owned, Position, Sphere, CLOSE, INSIDE};
+use plain::{Inserted, Mesh, Owned, Position, Sphere, INSIDE};
 
 const CELL_3: [Position; 4] = [[0, 0, 0], [0, 4, 4], [0, 0, 4], [4, 4, 4]];
 
@@ -43,11 +43,11 @@ fn base_and_sphere_of_1_2_3() {
     );
     let answer = Sphere {
         refusal: 0,
-        answer: CLOSE,
+        answer: INSIDE,
         t: 640.0,
     };
     assert_eq!(plain::sphere_test(CELL_3, p), answer);
-    assert!(plain::geometry::SphereAnswer::of(640.0).is_yes());
+    assert_eq!(plain::geometry::exact_sum(CELL_3, p), 640);
     assert_eq!(plain::locate(kit.mesh, &mut kit.tables.lend(), p).cell, 3);
 }
 

@@ -1,8 +1,8 @@
-//! Volumes and the sphere sum in i64. Coordinates are at most 2^17, so a cross product's entries stay within 2^35 and a
+//! Volumes in i64, and the sphere sums. Coordinates are at most 2^17, so a cross product's entries stay within 2^35 and a
 //! six-fold volume's three terms within 2^52.
 
-use plain::geometry::{SphereAnswer, OUT_OF_RANGE};
-use plain::{Position, Sphere, SIDE_LIMIT};
+use plain::geometry::OUT_OF_RANGE;
+use plain::{Position, Sphere, INSIDE, OUTSIDE, SIDE_LIMIT};
 
 pub type Offset = [i64; 3];
 
@@ -44,9 +44,26 @@ pub fn sides([a, b, c, d]: [Offset; 4]) -> [i64; 4] {
 
 /// T, with one rounding per operation.
 #[inline]
-pub fn sphere_sum(v: [i64; 4], offsets: [Offset; 4]) -> f64 {
+pub fn float_sum(v: [i64; 4], offsets: [Offset; 4]) -> f64 {
     let term = |i: usize| v[i] as f64 * dot(offsets[i], offsets[i]) as f64;
     ((term(0) + term(1)) + term(2)) + term(3)
+}
+
+#[inline]
+fn exact_sum(v: [i64; 4], offsets: [Offset; 4]) -> i128 {
+    let term = |i: usize| v[i] as i128 * dot(offsets[i], offsets[i]) as i128;
+    term(0) + term(1) + term(2) + term(3)
+}
+
+/// Is E above 0? T lies within 2^39 of it, and so has its sign beyond that.
+#[inline]
+pub fn is_inside(t: f64, v: [i64; 4], offsets: [Offset; 4]) -> bool {
+    const CLOSE: f64 = (1u64 << 39) as f64;
+    if t.abs() > CLOSE {
+        t > 0.0
+    } else {
+        exact_sum(v, offsets) > 0
+    }
 }
 
 /// The six-fold volume of the C interface, on the coordinates of a, b, c and d in order.
@@ -73,5 +90,14 @@ pub fn sphere_test(corners: [Position; 4], p: Position) -> Sphere {
     if v.iter().sum::<i64>() <= 0 {
         return refused(11);
     }
-    SphereAnswer::of(sphere_sum(v, offsets)).report()
+    let t = float_sum(v, offsets);
+    let answer = match is_inside(t, v, offsets) {
+        true => INSIDE,
+        false => OUTSIDE,
+    };
+    Sphere {
+        refusal: 0,
+        answer,
+        t,
+    }
 }

@@ -7,7 +7,7 @@ use crate::check::{mesh_refusal, used};
 use crate::star::write_star;
 
 pub fn insert(mesh: Mesh, tables: &mut Tables, p: Position) -> Inserted {
-    insert_one(mesh, tables, Answers::Float, usize::MAX, p)
+    insert_one(mesh, tables, Answers::SphereTest, usize::MAX, p)
 }
 
 pub fn insert_answers(mesh: Mesh, tables: &mut Tables, answers: &[u8], p: Position) -> Inserted {
@@ -50,7 +50,7 @@ fn insert_nodes(mut mesh: Mesh, tables: &mut Tables, nodes: &[u32]) -> Listed {
     let mut scratch = Scratch::new();
     let (nodes, _) = nodes.as_chunks();
     for (place, &p) in nodes.iter().enumerate() {
-        let inserted = insert_in_mesh(mesh, tables, &mut scratch, Answers::Float, p);
+        let inserted = insert_in_mesh(mesh, tables, &mut scratch, Answers::SphereTest, p);
         if inserted.refusal != 0 {
             return Listed {
                 refusal: inserted.refusal,
@@ -111,7 +111,7 @@ fn insert_in_mesh(
         after: corrected.after as u32,
         made: corrected.made as u32,
         least: match answers {
-            Answers::Float => corrected.least,
+            Answers::SphereTest => corrected.least,
             Answers::Given(_) => 0.0,
         },
     }

@@ -65,12 +65,14 @@ fn position(random: &mut Random, side: u32, spacing: u32) -> Position {
 fn single_insertions() {
     for seed in 0..30 {
         let mut random = Random::new(seed);
-        let side = random.pick(&[4, 16, 131_072]);
-        let spacing = if side == 131_072 {
-            random.pick(&[1, 8_192])
-        } else {
-            1
-        };
+        let (side, spacing) = random.pick(&[
+            (4, 1),
+            (16, 1),
+            (131_072, 1),
+            (131_072, 8_192),
+            // Ties that T rounds.
+            (120_000, 10_000),
+        ]);
         let mut pair = Pair::started([side; 3], 60, 300);
         for _ in 0..40 {
             let p = position(&mut random, side, spacing);

@@ -10,7 +10,7 @@ pub struct Build {
     pub rules: &'static dyn Rules,
 }
 
-pub const ALL: [Build; 15] = [
+pub const ALL: [Build; 18] = [
     build("zero-visible", &ZeroVisible),
     build("coplanar-starred", &CoplanarStarred),
     build("base-removed", &BaseRemoved),
@@ -20,6 +20,9 @@ pub const ALL: [Build; 15] = [
     build("coplanar-keeps", &CoplanarKeeps),
     build("one-round", &OneRound),
     build("one-at-a-time", &OneAtATime),
+    build("tie-inside", &TieInside),
+    build("float-sign", &FloatSign),
+    build("close-outside", &CloseOutside),
     build("lowest-numbered", &LowestNumbered),
     build("corners-unsorted", &CornersUnsorted),
     build("greatest-first", &GreatestFirst),
@@ -121,6 +124,33 @@ impl Rules for OneAtATime {
             }
         }
         removed
+    }
+}
+
+/// A position on the sphere counts as inside it.
+pub struct TieInside;
+
+impl Rules for TieInside {
+    fn is_inside(&self, e: i128, _t: f64) -> bool {
+        e >= 0
+    }
+}
+
+/// The sign of the rounded sum decides, however close it is to 0: the rule that document 02 §2 replaces.
+pub struct FloatSign;
+
+impl Rules for FloatSign {
+    fn is_inside(&self, _e: i128, t: f64) -> bool {
+        t > 0.0
+    }
+}
+
+/// Where the rounded sum is within 2^39, and so does not tell the sign, the answer is outside.
+pub struct CloseOutside;
+
+impl Rules for CloseOutside {
+    fn is_inside(&self, _e: i128, t: f64) -> bool {
+        t > 2f64.powi(39)
     }
 }
 

@@ -1,14 +1,15 @@
 //! What each wrong build does to a mesh, a located position or a merged file: for the five known ones, the symptom that
 //! document 01 names.
 
+use plain::geometry::{exact_sum, float_sum};
 use plain::loaded::Loaded;
 use plain::nodefile::encode;
 use plain::random::Random;
-use plain::{Answers, Mesh, Owned, Position, RightRules, Rules};
+use plain::{Answers, Inserted, Mesh, Owned, Position, RightRules, Rules};
 use wrong::{
-    AcrossFilesOnly, BaseRemoved, CoplanarKeeps, CoplanarStarred, CornersUnsorted, FarSideLeftOut,
-    GreatestFirst, LastInOrder, LostCornersOnly, LowestNumbered, OneAtATime, OneRound, SecondFirst,
-    VisibilityOnly, ZeroVisible,
+    AcrossFilesOnly, BaseRemoved, CloseOutside, CoplanarKeeps, CoplanarStarred, CornersUnsorted,
+    FarSideLeftOut, FloatSign, GreatestFirst, LastInOrder, LostCornersOnly, LowestNumbered,
+    OneAtATime, OneRound, SecondFirst, TieInside, VisibilityOnly, ZeroVisible,
 };
 
 #[derive(Clone, Debug, PartialEq, Eq)]
@@ -28,26 +29,44 @@ impl Kit {
         }
     }
 
+    fn insert(&mut self, rules: &dyn Rules, answers: Answers, p: Position) -> Inserted {
+        let answer = plain::insert_with(rules, self.mesh, &mut self.tables.lend(), answers, p);
+        assert_eq!(answer.refusal, 0);
+        self.mesh = answer.mesh;
+        answer
+    }
+
     /// The box 4, 4, 4 with these nodes put in by a build, every answer yes.
     fn with(rules: &dyn Rules, nodes: &[Position]) -> Kit {
         let mut kit = Kit::started([4; 3]);
         for &p in nodes {
-            let answers = Answers::Given(&[1; 64]);
-            let answer = plain::insert_with(rules, kit.mesh, &mut kit.tables.lend(), answers, p);
-            assert_eq!(answer.refusal, 0);
-            kit.mesh = answer.mesh;
+            kit.insert(rules, Answers::Given(&[1; 64]), p);
+        }
+        kit
+    }
+
+    /// A box with these nodes put in by a build's sphere test.
+    fn grown(rules: &dyn Rules, sides: Position, nodes: &[Position]) -> Kit {
+        let mut kit = Kit::started(sides);
+        for &p in nodes {
+            kit.insert(rules, Answers::SphereTest, p);
         }
         kit
     }
 
     /// The box 4, 4, 4 with these nodes put in by the sphere test.
     fn measured(nodes: &[Position]) -> Kit {
-        let mut kit = Kit::started([4; 3]);
-        let mut tables = kit.tables.lend();
-        let listed = plain::insert_list(kit.mesh, &mut tables, nodes.as_flattened());
-        assert_eq!(listed.refusal, 0);
-        kit.mesh = listed.mesh;
-        kit
+        Kit::grown(&RightRules, [4; 3], nodes)
+    }
+
+    /// Of how many cells does the sphere have a point strictly inside?
+    fn spheres_with_a_point(&mut self) -> usize {
+        let mesh = Loaded::load(self.mesh, &self.tables.lend());
+        let has_a_point = |&c: &usize| {
+            let corners = mesh.positions(c);
+            mesh.points.iter().any(|&p| exact_sum(corners, p) > 0)
+        };
+        (0..mesh.cells.len()).filter(has_a_point).count()
     }
 
     fn is_mesh(&mut self) -> bool {
@@ -293,16 +312,57 @@ fn across_files_only_leaves_a_node_that_does_not_go_in() {
     }
 }
 
-/// The two nodes lie evenly about the middle of the box, where the rounded sphere test may answer either way
-/// (examples/listing/two_even_nodes.nodes).
+/// Both nodes lie on one edge of the box, evenly about its middle, so that the second is on the spheres of cells of the first.
+#[test]
+fn tie_inside_makes_another_mesh() {
+    let nodes = [[1, 0, 0], [3, 0, 0]];
+    let [mut right, mut wrong] =
+        [&RightRules as &dyn Rules, &TieInside].map(|rules| Kit::grown(rules, [4; 3], &nodes));
+    assert!(wrong.is_mesh() && wrong != right);
+    assert_eq!(right.spheres_with_a_point(), 0);
+    assert_eq!(wrong.spheres_with_a_point(), 0);
+}
+
+/// The last node has E above 0 and T below 0 in a cell with both others.
+#[test]
+fn float_sign_leaves_a_node_inside_a_sphere() {
+    let sides = [120_000, 8_000, 8_000];
+    let nodes = [
+        [10_122, 6_325, 1_013],
+        [115_625, 2_556, 1_400],
+        [7_461, 3_986, 2_802],
+    ];
+    let mut wrong = Kit::grown(&FloatSign, sides, &nodes);
+    assert!(wrong.is_mesh());
+    assert_eq!(wrong.spheres_with_a_point(), 3);
+    let mut right = Kit::grown(&RightRules, sides, &nodes);
+    assert_eq!(right.spheres_with_a_point(), 0);
+}
+
+#[test]
+fn close_outside_splits_only_the_base() {
+    let nodes = [[1, 2, 3]];
+    let mut wrong = Kit::grown(&CloseOutside, [4; 3], &nodes);
+    assert!(wrong.is_mesh());
+    assert_eq!(wrong.mesh.cells, 9);
+    assert_eq!(wrong.spheres_with_a_point(), 7);
+    assert_eq!(Kit::measured(&nodes).mesh.cells, 12);
+}
+
+const EVEN_BOX: Position = [120_000, 80_000, 60_000];
+/// Evenly about the middle of the box, in z (examples/listing/two_even_nodes.nodes).
+const EVEN_NODES: [Position; 2] = [[70_000, 30_000, 20_000], [70_000, 30_000, 40_000]];
+
+/// With the signs of the rounded sums handed in for the second node.
 #[test]
 fn two_even_nodes_are_enough() {
     let after = |rules: &dyn Rules| {
-        let mut kit = Kit::started([120_000, 80_000, 60_000]);
-        let nodes = [70_000, 30_000, 20_000, 70_000, 30_000, 40_000];
-        let listed = plain::insert_list_with(rules, kit.mesh, &mut kit.tables.lend(), &nodes);
-        assert_eq!(listed.refusal, 0);
-        kit.mesh = listed.mesh;
+        let [below, above] = EVEN_NODES;
+        let mut kit = Kit::grown(rules, EVEN_BOX, &[below]);
+        let mesh = Loaded::load(kit.mesh, &kit.tables.lend());
+        let answer = |c| (float_sum(mesh.positions(c), above) > 0.0) as u8;
+        let answers: Vec<u8> = (0..mesh.cells.len()).map(answer).collect();
+        kit.insert(rules, Answers::Given(&answers), above);
         kit
     };
     assert!(after(&RightRules).is_mesh());
@@ -313,6 +373,37 @@ fn two_even_nodes_are_enough() {
     let whole = 6 * 120_000 * 80_000 * 60_000;
     let sum: i128 = after(&OneRound).volumes().iter().sum();
     assert_eq!(sum, whole + 72_000_000_000_000);
+}
+
+/// By exact answers the correction removes nothing, so builds that get it wrong need answers handed in to be told apart.
+#[test]
+fn wrong_corrections_leave_the_same_by_the_sphere_test_alone() {
+    let builds: [&dyn Rules; 7] = [
+        &ZeroVisible,
+        &BaseRemoved,
+        &VisibilityOnly,
+        &LostCornersOnly,
+        &CoplanarKeeps,
+        &OneRound,
+        &OneAtATime,
+    ];
+    for seed in 0..40 {
+        let mut random = Random::new(seed);
+        let (sides, spacing) =
+            random.pick(&[(EVEN_BOX, 10_000), ([8; 3], 1), ([60_000; 3], 5_000)]);
+        let node = |_| sides.map(|side| spacing * random.below((side / spacing + 1).into()) as u32);
+        let nodes: Vec<u32> = (0..20).flat_map(node).collect();
+        let left = |rules: &dyn Rules| {
+            let mut kit = Kit::started(sides);
+            let mut tables = kit.tables.lend();
+            kit.mesh = plain::insert_list_with(rules, kit.mesh, &mut tables, &nodes).mesh;
+            kit
+        };
+        let right = left(&RightRules);
+        for build in builds {
+            assert!(left(build) == right, "seed {seed}");
+        }
+    }
 }
 
 /// Lists are not checked again after each node: a wrong build goes on with what it left.

@@ -119,9 +119,8 @@ the volume, and 'volume'. Of the points: 'point', the number.",
         name: "sphere",
         words: "ax ay az bx by bz cx cy cz dx dy dz px py pz",
         summary: "whether p is inside the sphere through a, b, c and d",
-        help:
-            "The answer, inside, outside or close, with the float sum T and what an insertion takes
-it for: yes where T is above 0.",
+        help: "The answer, inside or outside, is exact, and p on the sphere is outside. It comes with the float
+sum T, which is rounded, and may have another sign where it is within 2^39 of 0.",
         choices: OF_NUMBERS,
         run: queries::sphere,
     },

@@ -133,9 +133,7 @@ pub fn sphere(words: &Words) -> Result<Done, Failure> {
     let name = match answer {
         SphereAnswer::Inside(_) => "inside",
         SphereAnswer::Outside(_) => "outside",
-        SphereAnswer::Close(_) => "close",
     };
-    let yes = if answer.is_yes() { "yes" } else { "no" };
     // T is a whole number, and all of its digits are shown.
-    Ok(Done::of(format!("{name}, T = {:.0}, {yes}\n", answer.t())))
+    Ok(Done::of(format!("{name}, T = {:.0}\n", answer.t())))
 }

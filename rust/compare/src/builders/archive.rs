@@ -82,7 +82,7 @@ impl Builder for Archive {
     fn insert(&self, mesh: Mesh, tables: &mut Tables, answers: Answers, p: Position) -> Inserted {
         let (mesh, tables) = (record(mesh), &mut lent(tables));
         inserted(match answers {
-            Answers::Float => raw::insert(mesh, tables, p),
+            Answers::SphereTest => raw::insert(mesh, tables, p),
             Answers::Given(bytes) => raw::insert_answers(mesh, tables, bytes, p),
         })
     }

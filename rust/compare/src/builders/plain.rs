@@ -35,7 +35,7 @@ impl Builder for Plain {
     }
 
     fn sphere_test(&self, corners: [Position; 4], p: Position) -> Sphere {
-        plain::sphere_test(corners, p)
+        plain::sphere_test_with(self.rules, corners, p)
     }
 
     fn start(&self, sides: Position, tables: &mut Tables) -> Started {

@@ -25,7 +25,7 @@ impl Builder for Tuned {
 
     fn insert(&self, mesh: Mesh, tables: &mut Tables, answers: Answers, p: Position) -> Inserted {
         match answers {
-            Answers::Float => tuned::insert(mesh, tables, p),
+            Answers::SphereTest => tuned::insert(mesh, tables, p),
             Answers::Given(bytes) => tuned::insert_answers(mesh, tables, bytes, p),
         }
     }
