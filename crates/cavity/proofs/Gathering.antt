@@ -1,4 +1,4 @@
--- A cell joins: the list, the states and the least T stay right.
+-- A cell joins: the list, the states and the least T stay right. A cell that answers no is noted.
 use Prim.Native.Nat.{ℕ, suc, _+_, _≤_, _<_}
 use mathlib.Core.Bool.{Bool, true, false, not, cond, _&&_, _||_}
 use mathlib.Core.List.{List}
@@ -22,10 +22,10 @@ use Rattle.rounding.proofs.Whole.{lt-int}
 use Rattle.geometry.specs.declared.Position.{Position}
 use Rattle.mesh.specs.Tables.{Tables}
 use Rattle.cavity.specs.declared.Gathered.{Gathered}
-use Rattle.cavity.specs.Answers.{Answers}
+use Rattle.cavity.specs.Answers.{Answers, saysYes}
 use Rattle.cavity.specs.Cavity.{inSet}
 use Rattle.cavity.specs.Inner.{inside, Enumerated}
-use Rattle.cavity.specs.Inner.Growth.{withCell, Lowest, Growing, Grew, Neighbour, InsideIfYes}
+use Rattle.cavity.specs.Inner.Growth.{withCell, Lowest, Growing, Grew, Neighbour, InsideIfYes, Blank, Denied}
 
 -- ---- the least
 
@@ -325,3 +325,16 @@ grew-then A B = record {
 pub inside-stays : (a : Answers) (t : Tables) (p : Position) (d : ℕ) {n : ℕ} {st li st′ li′ : List ℕ} {size size′ : ℕ} →
     Neighbour a t p n d → Grew n st li size st′ li′ size′ → InsideIfYes a t p st d → InsideIfYes a t p st′ d
 inside-stays a t p d N G J real y = G .keeps d (N real .0) (J real y)
+
+-- ---- cells that answered no
+
+module _ (a : Answers) (t : Tables) (p : Position) where
+  pub blank-denied : {bytes : List ℕ} → Blank bytes → Denied a t p bytes
+  blank-denied B = record { long = B .long; no = λ c d. absurd (d (B .zero c)) }
+
+  pub denied-more : {bytes : List ℕ} → Denied a t p bytes → (c : ℕ) → c < 4096 → saysYes a t p c ≡ false → Denied a t p (set bytes c 1)
+  denied-more {bytes} D c c< e = record { long = length-set bytes c 1 ∙ D .long; no = λ k d. go k d (ℕ-discrete k c) }
+    where
+      go : (k : ℕ) → getD (set bytes c 1) k 0 ≢ 0 → Dec (k ≡ c) → saysYes a t p k ≡ false
+      go k d (yes q) = ap (saysYes a t p) q ∙ e
+      go k d (no q) = D .no k (λ z. d (getD-set-other bytes c k 1 0 q ∙ z))

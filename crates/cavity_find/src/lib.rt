@@ -1,12 +1,11 @@
-// The cavity of a node: base, growth and correction.
+// The cavity of a node: base, growth and correction. The growth notes in `faces` which cells answer no; the correction writes over it.
 
 ghost use mathlib.Core.Path.{_≡_};
-ghost use lib.ListN.{length};
 ghost use Rattle.mesh.specs.Tables.{tablesIn, tablesBefore};
 ghost use Rattle.locate.specs.Inner.{sideCodes};
 ghost use Rattle.cavity.specs.Answers.{answersOf};
 ghost use Rattle.cavity.specs.Inner.{Answerable, CavityFound};
-ghost use Rattle.cavity.specs.Inner.Growth.{Empty};
+ghost use Rattle.cavity.specs.Inner.Growth.{Empty, Blank};
 use cavity::Extent;
 use cavity::Node;
 use cavity_base::find_base;
@@ -25,7 +24,7 @@ pub fn find_cavity(
     faces: &mut [u8],
 ) -> Extent
     requires { ⌜ Answerable (tablesIn points corners neighbours) (now answers) node × (now codes ≡ sideCodes (now points) (node .points) (node .position))
-        × Empty (now state) (now list) × (length (now faces) ≡ 4096) ⌝ }
+        × Empty (now state) (now list) × Blank (now faces) ⌝ }
     ensures { λ r. ⌜ CavityFound (answersOf (node .handed) (now (answers .entry))) (tablesBefore points corners neighbours) (node .position) (node .cells)
         (now (state .exit)) (now (list .exit)) (now (faces .exit)) r ⌝ }
 {
@@ -52,6 +51,7 @@ pub fn find_cavity(
         neighbours,
         answers,
         node,
+        faces,
         state,
         list,
         base,

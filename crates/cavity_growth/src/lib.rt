@@ -7,14 +7,14 @@ ghost use Rattle.mesh.specs.Tables.{tablesIn, tablesBefore};
 ghost use Rattle.cavity.specs.Answers.{answersOf, saysYes};
 ghost use Rattle.cavity.specs.Cavity.{cavityOf};
 ghost use Rattle.cavity.specs.Inner.{Answerable, setOf};
-ghost use Rattle.cavity.specs.Inner.Growth.{Reached, Grew, Neighbour, InsideIfYes};
+ghost use Rattle.cavity.specs.Inner.Growth.{Reached, Grew, Neighbour, InsideIfYes, Denied};
 use cavity::Gathered;
 use cavity::Node;
 use cavity_base::answer_of;
 use cavity_base::join;
 use mesh_tables::four_at;
 
-// What lies across a face joins if it is a cell, is not in yet, and its answer is yes.
+// What lies across a face joins if it is a cell, is not in yet, and its answer is yes. A cell is asked once: what answers no is noted.
 fn visit(
     points: &[u32],
     corners: &[u16],
@@ -22,18 +22,21 @@ fn visit(
     answers: &[u8],
     node: Node,
     d: u16,
+    denied: &mut [u8],
     state: &mut [u8],
     list: &mut [u16],
     g: Gathered,
 ) -> Gathered
     requires { ⌜ Answerable (tablesIn points corners neighbours) (now answers) node
         × Reached (answersOf (node .handed) (now answers)) (tablesIn points corners neighbours) (node .position) (node .cells) (now state) (now list) g
-        × Neighbour (answersOf (node .handed) (now answers)) (tablesIn points corners neighbours) (node .position) (node .cells) d ⌝ }
+        × Neighbour (answersOf (node .handed) (now answers)) (tablesIn points corners neighbours) (node .position) (node .cells) d
+        × Denied (answersOf (node .handed) (now answers)) (tablesIn points corners neighbours) (node .position) (now denied) ⌝ }
     ensures { λ r. ⌜ Reached (answersOf (node .handed) (now (answers .entry))) (tablesBefore points corners neighbours)
         (node .position) (node .cells) (now (state .exit)) (now (list .exit)) r
         × Grew (node .cells) (now (state .entry)) (now (list .entry)) (g .size) (now (state .exit)) (now (list .exit)) (r .size)
         × InsideIfYes (answersOf (node .handed) (now (answers .entry))) (tablesBefore points corners neighbours)
-        (node .position) (now (state .exit)) d ⌝ }
+        (node .position) (now (state .exit)) d
+        × Denied (answersOf (node .handed) (now (answers .entry))) (tablesBefore points corners neighbours) (node .position) (now (denied .exit)) ⌝ }
 {
     if d == 65535 {
         return g;
@@ -42,9 +45,13 @@ fn visit(
     if state[c] != 0 {
         return g;
     }
+    if denied[c] != 0 {
+        return g;
+    }
     let a = answer_of(points, corners, neighbours, answers, node, c);
     let yes = a.yes;
     if !yes {
+        denied[c] = 1;
         return g;
     }
     join(state, list, g, c, a.t, 1)
@@ -58,18 +65,21 @@ fn visit_all(
     answers: &[u8],
     node: Node,
     u: [u16; 4],
+    denied: &mut [u8],
     state: &mut [u8],
     list: &mut [u16],
     start: Gathered,
 ) -> Gathered
     requires { ⌜ Answerable (tablesIn points corners neighbours) (now answers) node
         × Reached (answersOf (node .handed) (now answers)) (tablesIn points corners neighbours) (node .position) (node .cells) (now state) (now list) start
-        × ((j : ℕ) → j < 4 → Neighbour (answersOf (node .handed) (now answers)) (tablesIn points corners neighbours) (node .position) (node .cells) (getD u j 0)) ⌝ }
+        × ((j : ℕ) → j < 4 → Neighbour (answersOf (node .handed) (now answers)) (tablesIn points corners neighbours) (node .position) (node .cells) (getD u j 0))
+        × Denied (answersOf (node .handed) (now answers)) (tablesIn points corners neighbours) (node .position) (now denied) ⌝ }
     ensures { λ r. ⌜ Reached (answersOf (node .handed) (now (answers .entry))) (tablesBefore points corners neighbours)
         (node .position) (node .cells) (now (state .exit)) (now (list .exit)) r
         × Grew (node .cells) (now (state .entry)) (now (list .entry)) (start .size) (now (state .exit)) (now (list .exit)) (r .size)
         × ((j : ℕ) → j < 4 → InsideIfYes (answersOf (node .handed) (now (answers .entry))) (tablesBefore points corners neighbours)
-        (node .position) (now (state .exit)) (getD u j 0)) ⌝ }
+        (node .position) (now (state .exit)) (getD u j 0))
+        × Denied (answersOf (node .handed) (now (answers .entry))) (tablesBefore points corners neighbours) (node .position) (now (denied .exit)) ⌝ }
 {
     let mut g = start;
     let mut j: usize = 0;
@@ -81,6 +91,7 @@ fn visit_all(
             answers,
             node,
             u[j],
+            denied,
             state,
             list,
             g,
@@ -97,16 +108,19 @@ pub fn grow(
     neighbours: &[u16],
     answers: &[u8],
     node: Node,
+    denied: &mut [u8],
     state: &mut [u8],
     list: &mut [u16],
     start: Gathered,
 ) -> Gathered
     requires { ⌜ Answerable (tablesIn points corners neighbours) (now answers) node
-        × Reached (answersOf (node .handed) (now answers)) (tablesIn points corners neighbours) (node .position) (node .cells) (now state) (now list) start ⌝ }
+        × Reached (answersOf (node .handed) (now answers)) (tablesIn points corners neighbours) (node .position) (node .cells) (now state) (now list) start
+        × Denied (answersOf (node .handed) (now answers)) (tablesIn points corners neighbours) (node .position) (now denied) ⌝ }
     ensures { λ r. ⌜ Reached (answersOf (node .handed) (now (answers .entry))) (tablesBefore points corners neighbours)
         (node .position) (node .cells) (now (state .exit)) (now (list .exit)) r
         × (setOf (node .cells) (now (state .exit)) ≡ cavityOf (tablesBefore points corners neighbours) (node .cells) (node .position)
-        (saysYes (answersOf (node .handed) (now (answers .entry))) (tablesBefore points corners neighbours) (node .position))) ⌝ }
+        (saysYes (answersOf (node .handed) (now (answers .entry))) (tablesBefore points corners neighbours) (node .position)))
+        × Denied (answersOf (node .handed) (now (answers .entry))) (tablesBefore points corners neighbours) (node .position) (now (denied .exit)) ⌝ }
 {
     let mut g = start;
     let mut h: usize = 0;
@@ -119,6 +133,7 @@ pub fn grow(
             answers,
             node,
             four_at(neighbours, c),
+            denied,
             state,
             list,
             g,

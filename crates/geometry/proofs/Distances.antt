@@ -1,11 +1,13 @@
 -- The squared distance is not below 0, and 0 for the same position alone.
 use Prim.Native.Nat.{ℕ}
 use mathlib.Core.Logic.{_≢_, _⊎_, inl, inr}
+use mathlib.Core.List.{[], _∷_}
 use mathlib.Core.Path.{_≡_, sym, ap}
 use lib.IntN.{ℤ, pos, natAbs, _+ℤ_, _-ℤ_, _*ℤ_}
 use lib.Signed.{_<ℤ_, _≤ℤ_}
 use Rattle.arith.proofs.Integers.{eq-of-sub}
 use Rattle.arith.proofs.Order.{arithℤ, parts-add, ≤-antisym, total, +-nonneg, square-nonneg, square-zero}
+use Rattle.arith.proofs.Ring.{var, con, _⊕_, _⊖_, _⊗_, ring}
 use Rattle.geometry.specs.declared.Position.{Position}
 use Rattle.geometry.specs.Volume.{squaredDistance}
 
@@ -13,6 +15,12 @@ pub distance-nonneg : (a p : Position) → pos 0 ≤ℤ squaredDistance a p
 unfolding squaredDistance
 distance-nonneg a p =
     +-nonneg (+-nonneg (square-nonneg (pos (a .x) -ℤ pos (p .x))) (square-nonneg (pos (a .y) -ℤ pos (p .y)))) (square-nonneg (pos (a .z) -ℤ pos (p .z)))
+
+pub distance-self : (p : Position) → squaredDistance p p ≡ pos 0
+unfolding squaredDistance
+distance-self p =
+    ring ((var 0 ⊖ var 0) ⊗ (var 0 ⊖ var 0) ⊕ (var 1 ⊖ var 1) ⊗ (var 1 ⊖ var 1) ⊕ (var 2 ⊖ var 2) ⊗ (var 2 ⊖ var 2)) (con (pos 0)) tt
+    (pos (p .x) ∷ pos (p .y) ∷ pos (p .z) ∷ [])
 
 -- a sum of squares is 0 where each is
 each-zero : (u v w : ℤ) → pos 0 ≤ℤ u → pos 0 ≤ℤ v → pos 0 ≤ℤ w → u +ℤ v +ℤ w ≡ pos 0 → (u ≡ pos 0) × (v ≡ pos 0) × (w ≡ pos 0)

@@ -2,15 +2,15 @@
 use Prim.Native.Nat.{ℕ, _+_, _≤_, _<_}
 use mathlib.Core.Bool.{Bool, true, false, not, cond}
 use mathlib.Core.List.{List}
-use mathlib.Core.Logic.{_≢_, _⊎_, inl, inr}
+use mathlib.Core.Logic.{_≢_}
 use mathlib.Core.Path.{_≡_, refl, sym, ap, _∙_}
 use native.Mathlib.Decide.{ℕ-discrete}
 use native.Mathlib.Omega.{arith}
-use borrow.Author.Tests.{eqb-true, eqb-false, ne-eqb, ltb-false, not-false}
+use borrow.Author.Tests.{eqb-false, ne-eqb, ltb-false, not-false}
 use lib.Dec.{ltb, eqb}
 use lib.ListN.{length}
 use Rattle.arith.specs.Table.{anyBelow}
-use Rattle.arith.proofs.Flags.{split, clash}
+use Rattle.arith.proofs.Flags.{clash}
 use Rattle.arith.proofs.Tables.{Found, any-found, any-intro}
 use Rattle.geometry.specs.declared.Position.{Position}
 use Rattle.geometry.specs.Volume.{InBox, inBox, samePosition}
@@ -132,15 +132,6 @@ module _ (m : Mesh) (t : Tables) (w : ℕ) (p : Position) (a : Answers) where
   pub call-is-node : firstThree ≡ 0 → insertCall m t w p a ≡ insertNode m t w p a
   unfolding insertCall insertNode insertRefusal
   call-is-node e = rw e
-
-  pub call-passed : insertRefusal m t w p a ≡ 0 → (firstThree ≡ 0) × (nodeRefusal m t w p a ≡ 0)
-  unfolding insertRefusal
-  call-passed e = go (split (eqb firstThree 0))
-    where
-      go : (eqb firstThree 0 ≡ true) ⊎ (eqb firstThree 0 ≡ false) →
-          (firstThree ≡ 0) × (nodeRefusal m t w p a ≡ 0)
-      go (inl q) = (eqb-true firstThree 0 q, rw q at e)
-      go (inr q) = absurd (eqb-false firstThree 0 q (rw q at e))
 
   -- an answer with a report: no test failed, and the record is the definition's
   pub accepted-node : {m′ : Mesh} {r : Report} → Accepted m′ r ≡ insertNode m t w p a .answer →

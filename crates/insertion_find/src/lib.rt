@@ -1,9 +1,7 @@
 // Tests 4 to 8 of a node. Nothing of the mesh is written.
 
-ghost use mathlib.Core.Path.{_≡_};
-ghost use lib.ListN.{length};
 ghost use Rattle.mesh.specs.Tables.{tablesIn, tablesBefore};
-ghost use Rattle.cavity.specs.Inner.Growth.{Empty};
+ghost use Rattle.cavity.specs.Inner.Growth.{Empty, Blank};
 ghost use Rattle.star.specs.Inner.{Lookup};
 ghost use Rattle.insertion.specs.Inner.{NodeOf, Tested};
 use cavity::Extent;
@@ -28,7 +26,7 @@ pub fn find(
     faces: &mut [u8],
     numbers: &mut [u16],
 ) -> Found
-    requires { ⌜ NodeOf mesh (tablesIn points corners neighbours) (now answers) node × Empty (now state) (now list) × (length (now faces) ≡ 4096) × Lookup (now numbers) ⌝ }
+    requires { ⌜ NodeOf mesh (tablesIn points corners neighbours) (now answers) node × Empty (now state) (now list) × Blank (now faces) × Lookup (now numbers) ⌝ }
     ensures { λ r. ⌜ Tested mesh (tablesBefore points corners neighbours) (now (answers .entry)) node
         (now (state .exit)) (now (list .exit)) (now (faces .exit)) (now (numbers .exit)) r ⌝ }
 {

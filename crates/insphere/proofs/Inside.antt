@@ -1,4 +1,4 @@
--- The sign of E: where the volume is above 0, so is E strictly inside the sphere, and below 0 outside. Of one tetrahedron; then of two that share all corners
+-- The sign of E where the volume is above 0: above 0 strictly inside the sphere, below 0 outside it. Of one tetrahedron; then of two that share all corners
 -- but one.
 use Prim.Native.Nat.{ℕ, _<_}
 use mathlib.Core.Logic.{_≢_, _⊎_, inl, inr}
@@ -13,8 +13,8 @@ use Rattle.arith.proofs.Ring.{var, _⊕_, ring}
 use Rattle.arith.proofs.Sums.{sum-zero, sum-mono, sum-pos}
 use Rattle.geometry.specs.declared.Position.{Position}
 use Rattle.geometry.specs.Volume.{volume, replaced, squaredDistance}
-use Rattle.geometry.proofs.Distances.{distance-nonneg, distance-pos}
-use Rattle.insphere.proofs.Power.{power, powerFrom, power-from, transfer-face, distance-self}
+use Rattle.geometry.proofs.Distances.{distance-nonneg, distance-pos, distance-self}
+use Rattle.insphere.proofs.Power.{power, powerFrom, power-from, transfer-face}
 
 -- a point that is beyond no face, strictly before one of them, and not the corner opposite that one
 pub held-inside : (s : ℕ → Position) (p : Position) → ((k : ℕ) → k < 4 → pos 0 ≤ℤ volume (replaced s k p)) →

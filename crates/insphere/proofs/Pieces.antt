@@ -1,4 +1,4 @@
--- Document 01's worked pieces for volumes and the sphere test, by computation.
+-- Worked pieces for volumes and the sphere test, by computation: document 01's, as document 02 §2 reads them, and sums whose sign T does not tell.
 use Prim.Native.Nat.{ℕ, _*_, _/_, _%_, _^_}
 use mathlib.Core.Bool.{true, false}
 use mathlib.Core.Path.{_≡_, refl}
@@ -56,25 +56,21 @@ sum-640 : sphereT (corner 4 0) (corner 4 6) (corner 4 4) (corner 4 7) P ≡ T
 unfolding sphereT volume6 squaredDistance add mul ofInt
 sum-640 = refl
 
--- 'The piece that read close reads inside': E is 640 too
-inside-640 : sphereAnswer (corner 4 0) (corner 4 6) (corner 4 4) (corner 4 7) P ≡ Inside T
-unfolding sphereAnswer sphereSum sphereT volume6 squaredDistance add mul ofInt
-inside-640 = refl
-
--- side 131,072, P at half, cell 0: 3 × 2^83
-half : sphereT (corner 131072 0) (corner 131072 1) (corner 131072 3) (corner 131072 7) (position 65536 65536 65536) ≡ fin false 3 (pos 83)
-unfolding sphereT volume6 squaredDistance add mul ofInt
-half = refl
-
-half-inside : sphereAnswer (corner 131072 0) (corner 131072 1) (corner 131072 3) (corner 131072 7) (position 65536 65536 65536) ≡ Inside (fin false 3 (pos 83))
-unfolding sphereAnswer sphereSum sphereT volume6 squaredDistance add mul ofInt
-half-inside = refl
-
--- ---- where T does not tell E's sign (document 02 §2)
-
 -- what E is, and what is answered
 abbrev Reads : Position → Position → Position → Position → Position → ℤ → Sphere → Type 0
 Reads a b c d p e s = (sphereSum a b c d p ≡ e) × (sphereAnswer a b c d p ≡ s)
+
+-- 'The piece that read close reads inside.'
+inside-640 : Reads (corner 4 0) (corner 4 6) (corner 4 4) (corner 4 7) P (pos 640) (Inside T)
+unfolding sphereAnswer sphereSum sphereT volume6 squaredDistance add mul ofInt
+inside-640 = (refl, refl)
+
+-- side 131,072, P at half, cell 0: 3 × 2^83
+half : Reads (corner 131072 0) (corner 131072 1) (corner 131072 3) (corner 131072 7) (position 65536 65536 65536) (pos (3 * 2 ^ 83)) (Inside (fin false 3 (pos 83)))
+unfolding sphereAnswer sphereSum sphereT volume6 squaredDistance add mul ofInt
+half = (refl, refl)
+
+-- ---- where T does not tell E's sign (document 02 §2)
 
 -- a tie with T above 0: cell 0 of a started box, at box corner 2
 tie-above : Reads (position 0 0 0) (position 1543 0 0) (position 1543 1555 0) (position 1543 1555 1555) (position 0 1555 0) (pos 0) (Outside (fin false 1 (pos 0)))

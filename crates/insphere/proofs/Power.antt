@@ -13,6 +13,7 @@ use Rattle.arith.proofs.Combine.{hyp, combine}
 use Rattle.arith.proofs.Sums.{sum-cong, sum-zero, sum-one}
 use Rattle.geometry.specs.declared.Position.{Position}
 use Rattle.geometry.specs.Volume.{volume6, volume, replaced, squaredDistance}
+use Rattle.geometry.proofs.Distances.{distance-self}
 use Rattle.geometry.proofs.Places.{replaced-same, replaced-other, replaced-cong}
 use Rattle.geometry.proofs.Algebra.{volume-cong, volume-zero, volume-split, cramer-x, cramer-y, cramer-z, affine, interpolation, volume-interpolation}
 use Rattle.insphere.specs.Sphere.{sphereSum}
@@ -138,10 +139,6 @@ transfer-face s r k hk shared q =
     (λ i hi d. ap (λ z. volume (replaced s i q) *ℤ z) (shared i hi d) ∙ *ℤ-zero (volume (replaced s i q))))
 
 -- ---- on the sphere
-
-pub distance-self : (p : Position) → squaredDistance p p ≡ pos 0
-unfolding squaredDistance
-distance-self p = ring (distₑ 0 0) (con (pos 0)) tt (points (p ∷ []) [])
 
 pub power-corner : (r : ℕ → Position) (j : ℕ) → j < 4 → power r (r j) ≡ pos 0
 unfolding power

@@ -7,7 +7,7 @@ use native.Mathlib.Nat.{mul-le-mul}
 use native.Mathlib.Omega.{arith}
 use lib.Dec.{ltb}
 use lib.IntN.{ℤ, pos, negsuc, natAbs, _+ℤ_, _-ℤ_, _*ℤ_}
-use lib.Signed.{ltZ, _<ℤ_, _≤ℤ_}
+use lib.Signed.{ltZ, _<ℤ_, _≤ℤ_, pos-natAbs, yes-nonNeg}
 use Rattle.arith.proofs.Order.{arithℤ, parts-add, parts-mul, ltZ-true, lt-ltZ}
 use Rattle.arith.proofs.Flags.{bool-ext}
 use Rattle.arith.proofs.Magnitude.{abs-parts, abs-*, abs-+}
@@ -26,10 +26,6 @@ units x = ap pos (two x)
     two : (x : ℕ) → x ≡ x / unit * unit + x % unit
     two x = omega arith
 
-pub nonneg-abs : (z : ℤ) → pos 0 ≤ℤ z → pos (natAbs z) ≡ z
-nonneg-abs (pos n) h = refl
-nonneg-abs (negsuc n) h = absurd (h .le)
-
 -- 2^52 makes a volume at least 0
 pub raised-nonneg : (v : ℤ) → natAbs v ≤ 2 ^ 52 → pos 0 ≤ℤ (v +ℤ pos (2 ^ 52))
 raised-nonneg v h = omega (arithℤ, parts-add v (pos (2 ^ 52)), abs-parts v)
@@ -38,7 +34,7 @@ parted-value : (v : ℤ) → natAbs v ≤ 2 ^ 52 → valueOf (parted v) ≡ v
 unfolding valueOf parted
 parted-value v h =
     ring ((var 0 ⊖ con (pos (2 ^ 25))) ⊗ con (pos unit) ⊕ var 1) (var 0 ⊗ con (pos unit) ⊕ var 1 ⊖ con (pos (2 ^ 52))) tt (pos (u / unit) ∷ pos (u % unit) ∷ []) ∙
-    (ap (λ z. z -ℤ pos (2 ^ 52)) (sym (units u) ∙ nonneg-abs (v +ℤ pos (2 ^ 52)) (raised-nonneg v h)) ∙
+    (ap (λ z. z -ℤ pos (2 ^ 52)) (sym (units u) ∙ pos-natAbs (v +ℤ pos (2 ^ 52)) (yes-nonNeg (raised-nonneg v h))) ∙
     ring (var 0 ⊕ con (pos (2 ^ 52)) ⊖ con (pos (2 ^ 52))) (var 0) tt (v ∷ []))
   where
     u : ℕ
@@ -54,7 +50,7 @@ scaled-value w l =
 
 pub term-value : {x : Term} → TermInRange x → valueOf (termWords x) ≡ x .volume *ℤ x .distance
 unfolding termWords
-term-value {x} h = scaled-value (parted (x .volume)) (natAbs (x .distance)) ∙ ap₂ _*ℤ_ (parted-value (x .volume) (h .volume≤)) (nonneg-abs (x .distance) (h .distance≥))
+term-value {x} h = scaled-value (parted (x .volume)) (natAbs (x .distance)) ∙ ap₂ _*ℤ_ (parted-value (x .volume) (h .volume≤)) (pos-natAbs (x .distance) (yes-nonNeg (h .distance≥)))
 
 sum-value : (a b c d : Words) → valueOf (sumWords a b c d) ≡ valueOf a +ℤ valueOf b +ℤ valueOf c +ℤ valueOf d
 unfolding valueOf sumWords

@@ -48,7 +48,7 @@ fn add(a: Words, b: Words, c: Words, d: Words) -> Words
 }
 
 // Whether the sum of the terms is above 0.
-pub fn sum_above(x: Terms) -> bool
+pub fn is_sum_positive(x: Terms) -> bool
     requires { ⌜ TermsInRange x ⌝ }
     ensures { λ r. ⌜ r ≡ ltZ (pos 0) (exactSum x) ⌝ }
 {

@@ -7,7 +7,7 @@ ghost use Rattle.geometry.specs.Volume.{InRange};
 ghost use Rattle.geometry.specs.Inner.{CornersInRange};
 ghost use Rattle.insphere.specs.Inner.{TermInRange, TermsInRange, termsAt, exactSum, floatSum};
 ghost use Rattle.insphere.specs.Sphere as spec;
-use crate::exact::sum_above;
+use crate::exact::is_sum_positive;
 use geometry::Position;
 use geometry::Tetrahedron;
 use geometry::distance::squared_distance;
@@ -114,7 +114,7 @@ fn is_inside(x: Terms, t: f64) -> bool
     if t < -549755813888.0 {
         return false;
     }
-    sum_above(x)
+    is_sum_positive(x)
 }
 
 // The answer for a cell with these corners, at p.

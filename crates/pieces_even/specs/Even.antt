@@ -1,6 +1,7 @@
 -- Two nodes that lie evenly in a box. For some of the cells on whose sphere the second one lies, the rounded sum T is above 0; E is 0 for
 -- all of them, so none of them answers yes. With the rounded answers handed in, the correction takes four cells away, and three of the
--- wrong ways to correct a cavity (`Wrong`) leave another one.
+-- wrong ways to correct a cavity (`Wrong`) leave another one. Below: a report with its least T below 0, and a mesh by answers handed in with
+-- a point inside a sphere.
 use Prim.Native.Nat.{ℕ}
 use mathlib.Core.Bool.{Bool, true, false, _&&_, cond}
 use mathlib.Core.List.{[], _∷_}
@@ -33,7 +34,7 @@ above = position 70000 30000 40000
 unfoldable pub onSphere : ℕ → Bool
 onSphere c = sameZ (cellE (one-node .tables) above c) (pos 0)
 
--- T of cell c is above 0, which document 01 counted as yes
+-- T of cell c is above 0: document 01's yes
 unfoldable pub roundedYes : ℕ → Bool
 roundedYes c = lt zeroFloat (cellT (one-node .tables) above c)
 
@@ -42,7 +43,7 @@ unfoldable pub rounded : Answers
 rounded = handed (tabulate 12 (λ c. cond (roundedYes c) 1 0))
 
 pub record EvenNodes : Type 0 where
-  -- eight of the twelve cells have it on their sphere; four of these had T above 0, and now none answers yes
+  -- eight of the twelve cells have it on their sphere; four of these have T above 0, and none answers yes
   pub on-sphere : selectBelow 12 onSphere ≡ 0 ∷ 2 ∷ 4 ∷ 5 ∷ 7 ∷ 9 ∷ 10 ∷ 11 ∷ []
   pub either-way : selectBelow 12 (λ c. onSphere c && roundedYes c) ≡ 0 ∷ 9 ∷ 10 ∷ 11 ∷ []
   pub settled : selectBelow 12 (λ c. onSphere c && saysYes sphere (one-node .tables) above c) ≡ []

@@ -61,7 +61,7 @@ pub cavity-below : (t : Tables) (n : ℕ) (p : Position) (c : ℕ) → inSet (ex
 cavity-below t n p c e = omega (arith, flag-below (exactCavity t n p) c e, cavity-long t n p (saysYes sphere t p) (base t n p) (base-long t n p))
 
 module _ {X Y Z pc cc np n : ℕ} {t : Tables} (M : IsMesh X Y Z pc cc np n t) where
-  above : (c : ℕ) → c < n → pos 0 <ℤ volume (cornerAt t c)
+  pub above : (c : ℕ) → c < n → pos 0 <ℤ volume (cornerAt t c)
   above c h = unfold cellVolume in M .positive c h
 
   -- D3: a cell that holds p

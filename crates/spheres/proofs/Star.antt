@@ -15,7 +15,7 @@ use Rattle.geometry.specs.Volume.{volume, replaced, InBox}
 use Rattle.geometry.proofs.Places.{replaced-same, replaced-other}
 use Rattle.insphere.proofs.Power.{power, power-cong, power-corner}
 use Rattle.insphere.proofs.Inside.{stays-out, near-out, far-out}
-use Rattle.mesh.specs.Tables.{Tables, none, cellOf, opposite, point, corner, across, cornerAt, cellVolume, side, mate}
+use Rattle.mesh.specs.Tables.{Tables, none, cellOf, opposite, point, corner, across, cornerAt, side, mate}
 use Rattle.mesh.specs.Mesh.{OnFace, IsMesh}
 use Rattle.mesh.proofs.Room.{Room}
 use Rattle.mesh.proofs.Faces.{mated, mate-cell<, mate-opposite, same-back}
@@ -27,16 +27,13 @@ use Rattle.cavity.proofs.Tests.{Visible, visible-of}
 use Rattle.star.specs.Star.{madeCount, newCount, kept?, keptNumber, madeNumber, star}
 use Rattle.star.proofs.Star.{Fits, Origin, from-kept, from-made, origin, old-point, new-point, kept-position, made-position}
 use Rattle.spheres.specs.Exact.{Empty, ExactInsertion}
-use Rattle.spheres.proofs.Cavity.{sphere-is, point-out, exactCavity, cavity-inside, outside-cavity, cavity-is}
+use Rattle.spheres.proofs.Cavity.{above, sphere-is, point-out, exactCavity, cavity-inside, outside-cavity, cavity-is}
 use Rattle.spheres.proofs.Corners.{corrected-same}
 
 module _ {X Y Z pc cc np n : ℕ} {t : Tables} (M : IsMesh X Y Z pc cc np n t) (R : Room pc cc t) (G : Empty np n t)
     (p : Position) (box : InBox X Y Z p) (new : (k : ℕ) → k < np → p ≢ point t k) where
   abbrev s : List Bool
   s = exactCavity t n p
-
-  above : (c : ℕ) → c < n → pos 0 <ℤ volume (cornerAt t c)
-  above c h = unfold cellVolume in M .positive c h
 
   old-out : (c k : ℕ) → c < n → k < np → power (cornerAt t c) (point t k) ≤ℤ pos 0
   old-out c k l h = subst (λ z. z ≤ℤ pos 0) (sphere-is t (point t k) c) (point-out G c k l h)
@@ -65,8 +62,8 @@ module _ {X Y Z pc cc np n : ℕ} {t : Tables} (M : IsMesh X Y Z pc cc np n t) (
     near : (x : Position) → pos 0 ≤ℤ side t x f → power (cornerAt t c) x ≤ℤ pos 0 → power r x ≤ℤ pos 0
     unfolding side
     near =
-        stays-out (cornerAt t c) r (opposite f) (opposite< f) r-shared (above c (cell< f f<)) r-above
-        (near-out (cornerAt t c) r (opposite f) (opposite< f) r-shared (above c (cell< f f<)) r-above p r-tip r-above
+        stays-out (cornerAt t c) r (opposite f) (opposite< f) r-shared (above M c (cell< f f<)) r-above
+        (near-out (cornerAt t c) r (opposite f) (opposite< f) r-shared (above M c (cell< f f<)) r-above p r-tip r-above
         (<→≤ (subst (λ z. pos 0 <ℤ z) (sphere-is t p c) (cavity-inside M R G p box new c (seen .held)))))
 
     module _ (real : across t f ≢ none) where
@@ -96,8 +93,8 @@ module _ {X Y Z pc cc np n : ℕ} {t : Tables} (M : IsMesh X Y Z pc cc np n t) (
       far : (x : Position) → side t x f <ℤ pos 0 → power (cornerAt t u) x ≤ℤ pos 0 → power r x ≤ℤ pos 0
       unfolding side
       far x b h =
-          stays-out (cornerAt t u) r (opposite (mate t f)) (opposite< (mate t f)) u-shared (above u u<) r-above
-          (far-out (cornerAt t u) r (opposite (mate t f)) (opposite< (mate t f)) u-shared (above u u<) r-above p r-tip behind u-out) x
+          stays-out (cornerAt t u) r (opposite (mate t f)) (opposite< (mate t f)) u-shared (above M u u<) r-above
+          (far-out (cornerAt t u) r (opposite (mate t f)) (opposite< (mate t f)) u-shared (above M u u<) r-above p r-tip behind u-out) x
           (subst (λ z. pos 0 ≤ℤ z) (sym (mate-opposite M R f f< real x)) (<→≤ (neg-pos b))) h
 
     made-out : (k : ℕ) → k < np → power r (point t k) ≤ℤ pos 0

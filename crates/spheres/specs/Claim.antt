@@ -15,12 +15,13 @@ use Rattle.insertion.specs.Insertion.{insertCall}
 use Rattle.calls.specs.Calls.{Build, Call, by-sphere, by-answers, by-list, outcome}
 use Rattle.spheres.specs.Exact.{Empty}
 
--- a call with answers handed in accepts no node
+-- by the sphere test; or with answers handed in, and no node accepted
 unfoldable pub OwnCall : Build → Call → Type 0
 OwnCall b (by-sphere w p) = Unit {0}
 OwnCall b (by-answers w bytes p) = outcome b (by-answers w bytes p) .accepted ≡ []
 OwnCall b (by-list w ns) = Unit {0}
 
+-- each call, on what those before it left
 unfoldable pub OwnCalls : Build → List Call → Type 0
 OwnCalls b [] = Unit {0}
 OwnCalls b (c ∷ cs) = OwnCall b c × OwnCalls (outcome b c .after) cs

@@ -70,3 +70,13 @@ pub record Empty (st li : List ℕ) : Type 0 where
   pub states : length st ≡ 4096
   pub entries : length li ≡ 4096
   pub zero : (k : ℕ) → getD st k 0 ≡ 0
+
+-- a byte for each cell, all 0
+pub record Blank (bytes : List ℕ) : Type 0 where
+  pub long : length bytes ≡ 4096
+  pub zero : (c : ℕ) → getD bytes c 0 ≡ 0
+
+-- cells whose byte is not 0 have answered no
+pub record Denied (a : Answers) (t : Tables) (p : Position) (bytes : List ℕ) : Type 0 where
+  pub long : length bytes ≡ 4096
+  pub no : (c : ℕ) → getD bytes c 0 ≢ 0 → saysYes a t p c ≡ false

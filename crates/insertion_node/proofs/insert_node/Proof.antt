@@ -30,7 +30,7 @@ find-requires : tie.Need-find-requires
 find-requires c κs = (
   record { mesh = c .before .before .before .before .before .before .before .before .before .before .before .before .before .pre .0; points-are = refl; cells-are = refl; answered = c .before .before .before .before .before .before .before .before .before .before .before .before .before .pre .1 },
   record { states = refl; entries = refl; zero = zeros-at 4096 },
-  refl,
+  record { long = refl; zero = zeros-at 4096 },
   record { long = length-replicate 8192 none; last = getD-replicate 8192 8191 none 0 (omega arith) },
 )
 

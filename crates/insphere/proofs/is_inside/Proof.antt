@@ -22,11 +22,11 @@ returns c = sym (sum-positive (c .before .pre .0) (above c))
 returns-2 : tie.Need-returns-2
 returns-2 c = sym (sum-negative (c .before .before .pre .0) (below c))
 
-sum-above-requires : tie.Need-sum-above-requires
-sum-above-requires c κs = search needs
+is-sum-positive-requires : tie.Need-is-sum-positive-requires
+is-sum-positive-requires c κs = search needs
 
 returns-3 : tie.Need-returns-3
 returns-3 c = search needs
 
 pub is-inside-spec : {M : Type 1} → statement M
-is-inside-spec = tie.close (tie.spec returns returns-2 sum-above-requires returns-3)
+is-inside-spec = tie.close (tie.spec returns returns-2 is-sum-positive-requires returns-3)

@@ -2,11 +2,12 @@ use Prim.Native.Nat.{ℕ, _*_, _/_, _%_, _^_, _≤_, _<_}
 use mathlib.Core.Path.{_≡_, _∙_, sym, ap}
 use native.Mathlib.Omega.{arith}
 use lib.IntN.{ℤ, pos, natAbs, _+ℤ_, _*ℤ_}
+use lib.Signed.{pos-natAbs, yes-nonNeg}
 use mir.Syntax.{w64}
 use Rattle.arith.proofs.Machine.{back, fits-64, back-64}
 use Rattle.insphere.specs.declared.Words.{Words}
 use Rattle.insphere.specs.Inner.{unit, parted, scaled, termWords}
-use Rattle.insphere.proofs.TwoWords.{Parted, nonneg-abs, parted-within, high-product, low-product, units-moved, scaled-within}
+use Rattle.insphere.proofs.TwoWords.{Parted, parted-within, high-product, low-product, units-moved, scaled-within}
 use borrow.Author.Needs.{needs}
 use Rattle.insphere.proofs.exact.multiply.Statement.{statement}
 use Rattle.insphere.proofs.exact.multiply.Tie as tie
@@ -22,7 +23,7 @@ within : (c : tie.Start) → Parted (w c)
 within c = parted-within (c .args .x .volume) (c .pre .volume≤)
 
 distance-read : (c : tie.Start) → back w64 (c .args .x .distance) ≡ pos (l c)
-distance-read c = back-64 (c .args .x .distance) (omega (arith, c .pre .distance≤)) ∙ sym (nonneg-abs (c .args .x .distance) (c .pre .distance≥))
+distance-read c = back-64 (c .args .x .distance) (omega (arith, c .pre .distance≤)) ∙ sym (pos-natAbs (c .args .x .distance) (yes-nonNeg (c .pre .distance≥)))
 
 high-read : (c : tie.Start) → back w64 (w c .high) ≡ w c .high
 high-read c = back-64 (w c .high) (omega (arith, within c .high≤))

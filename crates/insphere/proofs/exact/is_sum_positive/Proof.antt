@@ -10,8 +10,8 @@ use Rattle.insphere.specs.declared.Words.{Words}
 use Rattle.insphere.specs.Inner.{exactSum, unit, valueOf, termWords, sumWords}
 use Rattle.insphere.proofs.TwoWords.{term-within, sum-high, sum-is, sum-low, high-tells, low-tells}
 use borrow.Author.Needs.{needs}
-use Rattle.insphere.proofs.exact.sum_above.Statement.{statement}
-use Rattle.insphere.proofs.exact.sum_above.Tie as tie
+use Rattle.insphere.proofs.exact.is_sum_positive.Statement.{statement}
+use Rattle.insphere.proofs.exact.is_sum_positive.Tie as tie
 
 abbrev start : tie.After-multiply4 → tie.Start
 start c = c .before .before .before .before .before .before .before .before
@@ -67,8 +67,8 @@ returns-2 c =
     let a = c .before .before .before .before in
     low-tells (a .add .result) (sym (high-read a) ∙ ap (toZ w64) (c .before .if1 .left)) ∙ ap (ltZ (pos 0)) (value-is a)
 
-pub sum-above-spec : {M : Type 1} → statement M
-sum-above-spec =
+pub is-sum-positive-spec : {M : Type 1} → statement M
+is-sum-positive-spec =
     tie.close
     (tie.spec
     multiply-requires
