@@ -7,8 +7,8 @@ use plain::{Answers, Owned, Position, RightRules};
 
 use crate::nodes::Set;
 
-/// Over all nodes of a list: how many cells are asked whether the node is inside their sphere, and at how many of these the float
-/// sum is within 2^39, so that it does not tell.
+/// Over all nodes of a list: of how many cells the archive works out the sphere test, and at how many of these the float sum is
+/// within 2^39, so that it does not tell and the exact sum is worked out too.
 #[derive(Default)]
 pub struct Asked {
     pub cells: usize,
@@ -27,16 +27,17 @@ pub fn asked(set: &Set) -> Asked {
 }
 
 impl Asked {
-    /// The cells of the cavity beside its base, which is not asked, and all neighbours of the cavity.
+    /// The grown cavity and its neighbours, each cell once. Base cells too: they are in whatever they answer, but the least T is
+    /// over them as well, and the archive takes T from the same test.
     fn count(&mut self, mesh: &Loaded, p: Position) {
         let mut cavity = Cavity::base(&RightRules, mesh, p);
         cavity.grow(Answers::SphereTest);
-        let is_reached = |c: usize| {
+        let is_asked = |c: usize| {
             let mut across = (0..4).filter_map(|i| mesh.across(c, i));
-            across.any(|u| cavity.in_cavity[u])
+            cavity.in_cavity[c] || across.any(|u| cavity.in_cavity[u])
         };
         for c in 0..mesh.cells.len() {
-            if !cavity.in_base[c] && is_reached(c) {
+            if is_asked(c) {
                 self.cells += 1;
                 let t = float_sum(mesh.positions(c), p);
                 self.close += usize::from(t.abs() <= 2f64.powi(39));

@@ -5,6 +5,7 @@
 mod even_nodes;
 
 use even_nodes::{after, before, nodes, picture, shapes, Shape, THIN};
+use gantry::{sphere_test, Mesh, SphereAnswer};
 use gantry_cli::grouped;
 
 /// README, without its line ends.
@@ -38,4 +39,20 @@ fn readme_has_its_figures() {
         size(&after[0])
     );
     assert!(readme().contains(&said), "{said}");
+}
+
+fn has_empty_spheres(mesh: &Mesh) -> bool {
+    (0..mesh.cells().len()).all(|cell| {
+        let corners = mesh.corner_positions(cell).unwrap();
+        let is_inside = |&p| matches!(sphere_test(corners, p), Ok(SphereAnswer::Inside(_)));
+        !mesh.points().iter().any(is_inside)
+    })
+}
+
+/// So empty spheres do not by themselves exclude thin cells.
+#[test]
+fn both_meshes_have_empty_spheres() {
+    assert!(has_empty_spheres(&before().unwrap()));
+    assert!(has_empty_spheres(&after().unwrap()));
+    assert!(readme().contains("in the picture it holds of the mesh before too"));
 }

@@ -375,7 +375,7 @@ fn two_even_nodes_are_enough() {
     assert_eq!(sum, whole + 72_000_000_000_000);
 }
 
-/// By exact answers the correction removes nothing, so builds that get it wrong need answers handed in to be told apart.
+/// Where every node goes in by the sphere test the correction removes nothing, so builds that get it wrong show in other meshes only.
 #[test]
 fn wrong_corrections_leave_the_same_by_the_sphere_test_alone() {
     let builds: [&dyn Rules; 7] = [
