@@ -37,6 +37,7 @@ extern "C" {
 #define GANTRY_TRAILER 9        /* a file under 20 bytes, or a wrong count or distance in its trailer */
 #define GANTRY_NO_PLACE 10      /* the output is shorter than what is to be written */
 #define GANTRY_FLAT_CELL 11     /* a sphere test on a cell of volume 0 or less */
+#define GANTRY_OTHER_MARKS 14   /* the marks handed in are too few, or not those that a look would now give */
 #define GANTRY_UNEQUAL_SIDES 19 /* the boxes of two files to be merged differ in a side */
 
 /* Sphere answers; 0 in a refusal. 3 was 'close' up to version 0.4: it is retired, and never answered. */
@@ -58,6 +59,7 @@ typedef struct { uint32_t x, y, z, points, cells; } gantry_mesh;
  */
 typedef struct { uint8_t refusal; gantry_mesh mesh; } gantry_started;                    /* refused: a record of zeros */
 typedef struct { uint8_t refusal; gantry_mesh mesh; uint32_t point, before, after, made; double least; } gantry_inserted;
+typedef struct { uint8_t refusal; uint32_t point, before, after, made; double least; } gantry_looked;
 typedef struct { uint8_t refusal; gantry_mesh mesh; uint32_t place; } gantry_listed;      /* place: of the refused node, or how many went in */
 typedef struct { uint8_t refusal; uint32_t cell; } gantry_located;
 typedef struct { uint8_t refusal; uint8_t answer; double t; } gantry_sphere;              /* 1 inside, 2 outside */
@@ -103,6 +105,22 @@ gantry_inserted gantry_insert(gantry_mesh mesh, GANTRY_TABLES, uint32_t x, uint3
  */
 gantry_inserted gantry_insert_answers(gantry_mesh mesh, GANTRY_TABLES,
                                       const uint8_t *answers, size_t answers_len, uint32_t x, uint32_t y, uint32_t z);
+
+/*
+ * Looks at the insertion of a node by the sphere test, and inserts nothing. The answer is the report that gantry_insert would give. marks
+ * gets a byte for each cell: 1 for a cell that the node would replace, 0 for any other; bytes beyond the cell count stay as they were, and
+ * all of them do where the look is refused. Writes the work area and marks alone. Refusals 1 to 8, each where gantry_insert would answer
+ * it, then 10 for fewer bytes than cells.
+ */
+gantry_looked gantry_look(gantry_mesh mesh, GANTRY_TABLES, uint8_t *marks, size_t marks_len, uint32_t x, uint32_t y, uint32_t z);
+
+/*
+ * Inserts a node as gantry_insert does, but only if a look would now give these marks: each byte up to the cell count must be exactly the
+ * one that gantry_look would write; bytes beyond are not read. With the marks of a look at this node, on record and tables as they were
+ * then and with no less room, it does what gantry_insert does. Refusals 1 to 8, then 14. Proved in crates/look_first.
+ */
+gantry_inserted gantry_insert_marked(gantry_mesh mesh, GANTRY_TABLES,
+                                     const uint8_t *marks, size_t marks_len, uint32_t x, uint32_t y, uint32_t z);
 
 /*
  * Inserts nodes, three numbers each, up to the first that is refused: then place is its place in the list, from 0, and the nodes

@@ -14,12 +14,14 @@ use Rattle.mesh.specs.Check.{isMesh}
 use Rattle.mesh.specs.Refusal.{meshRefusal}
 use Rattle.mesh.proofs.Verdict.{passed}
 use Rattle.cavity.specs.Answers.{Answers, sphere, handed}
-use Rattle.insertion.specs.Insertion.{nodeRefusal, fewerBytes, insertedMesh, insertedTables, insertCall}
+use Rattle.insertion.specs.Insertion.{nodeRefusal, fewerBytes, insertRefusal, insertedMesh, insertedTables, insertUnless, insertCall}
 use Rattle.insertion.specs.List.{listedNode, listedCount, insertFrom, listCall}
-use Rattle.insertion.proofs.Refusals.{node-accepted, node-refused, call-refused, call-is-node}
+use Rattle.insertion.specs.Look.{markedRefusal, markedCall}
+use Rattle.insertion.proofs.Refusals.{unless-accepted, unless-refused, node-accepted, node-refused, tests-passed}
+use Rattle.insertion.proofs.Looking.{marked-accepted}
 use Rattle.insertion.proofs.Growing.{checks-again}
 use Rattle.insertion.proofs.Steps.{list-refused, list-begins, node-in, node-out}
-use Rattle.calls.specs.Calls.{Build, Call, by-sphere, by-answers, by-list, recordAfter, recordAfterList, acceptedNode, acceptedNodes, Outcome, insertOutcome, listOutcome, outcome, meshAfter, acceptedBy}
+use Rattle.calls.specs.Calls.{Build, Call, by-sphere, by-answers, by-marks, by-list, look, recordAfter, recordAfterList, acceptedNode, acceptedNodes, Outcome, insertOutcome, listOutcome, outcome, meshAfter, acceptedBy}
 
 abbrev pub built : Mesh → Tables → Build
 built m t = record { mesh = m; tables = t }
@@ -39,15 +41,31 @@ module _ (P : Build → List Position → Type 0) where
   same-kept : (b : Build) (ps : List Position) → P b ps → P b (ps ++ [])
   same-kept b ps K = subst (P b) (sym (append-nil ps)) K
 
+  -- a call with the refusal r, of a node that fits where there is none
+  unless-keeps : (a : Answers) → KeptBy a → (m : Mesh) (t : Tables) (w : ℕ) (p : Position) (ps : List Position) (r : ℕ) →
+      (r ≡ 0 → insertRefusal m t w p a ≡ 0) → P (built m t) ps → Keeps ps (insertOutcome m p (insertUnless r m t p a))
+  unfolding insertOutcome recordAfter acceptedNode
+  unless-keeps a more m t w p ps r fits K = go (ℕ-discrete r 0)
+    where
+      go : Dec (r ≡ 0) → Keeps ps (insertOutcome m p (insertUnless r m t p a))
+      go (no d) = rw (unless-refused m t p a refl d) (same-kept (built m t) ps K)
+      go (yes z) =
+          let h = tests-passed m t w p a (fits z) in
+          rw (unless-accepted m t p a z) (more m t w p ps (passed m t w (fewerBytes a (m .cells)) (h .0)) (h .1) K)
+
   pub insert-keeps : (a : Answers) → KeptBy a → (m : Mesh) (t : Tables) (w : ℕ) (p : Position) (ps : List Position) → P (built m t) ps →
       Keeps ps (insertOutcome m p (insertCall m t w p a))
-  unfolding insertOutcome recordAfter acceptedNode
-  insert-keeps a more m t w p ps K = go (ℕ-discrete (meshRefusal m t w (fewerBytes a (m .cells))) 0) (ℕ-discrete (nodeRefusal m t w p a) 0)
-    where
-      go : Dec (meshRefusal m t w (fewerBytes a (m .cells)) ≡ 0) → Dec (nodeRefusal m t w p a ≡ 0) → Keeps ps (insertOutcome m p (insertCall m t w p a))
-      go (no d) r = rw (call-refused m t w p a refl d) (same-kept (built m t) ps K)
-      go (yes z) (no d) = rw (call-is-node m t w p a z, node-refused m t w p a refl d) (same-kept (built m t) ps K)
-      go (yes z) (yes r) = rw (call-is-node m t w p a z, node-accepted m t w p a r) (more m t w p ps (passed m t w (fewerBytes a (m .cells)) z) r K)
+  unfolding insertCall
+  insert-keeps a more m t w p ps K = unless-keeps a more m t w p ps (insertRefusal m t w p a) (λ z. z) K
+
+  pub marked-keeps : KeptBy sphere → (m : Mesh) (t : Tables) (w : ℕ) (marks : List ℕ) (p : Position) (ps : List Position) → P (built m t) ps →
+      Keeps ps (insertOutcome m p (markedCall m t w p marks))
+  unfolding markedCall
+  marked-keeps more m t w marks p ps K = unless-keeps sphere more m t w p ps (markedRefusal m t w p marks) (marked-accepted m t w p marks) K
+
+  pub look-keeps : (b : Build) (w : ℕ) (marks : List ℕ) (p : Position) (ps : List Position) → P b ps → Keeps ps (outcome b (look w marks p))
+  unfolding outcome
+  look-keeps b w marks p ps K = same-kept b ps K
 
   module _ (more : KeptBy sphere) where
     -- k nodes from place i on, with those before i accepted; m₀ is the record that the list call was given
@@ -98,7 +116,9 @@ module _ (P : Build → List Position → Type 0) where
     unfolding outcome
     call-keeps b (by-sphere w p) ps K = insert-keeps sphere (more sphere) (b .mesh) (b .tables) w p ps K
     call-keeps b (by-answers w bytes p) ps K = insert-keeps (handed bytes) (more (handed bytes)) (b .mesh) (b .tables) w p ps K
+    call-keeps b (by-marks w marks p) ps K = marked-keeps (more sphere) (b .mesh) (b .tables) w marks p ps K
     call-keeps b (by-list w ns) ps K = list-keeps (more sphere) (b .mesh) (b .tables) w ns ps K
+    call-keeps b (look w marks p) ps K = look-keeps b w marks p ps K
 
     pub calls-keep : (b : Build) (cs : List Call) (ps : List Position) → P b ps → P (meshAfter b cs) (ps ++ acceptedBy b cs)
     unfolding meshAfter acceptedBy

@@ -17,6 +17,7 @@ use Rattle.insertion.specs.declared.Listed.{Listed}
 use Rattle.insertion.specs.declared.Listed.the-variants.{Ended, Stopped, Refused as AllRefused}
 use Rattle.insertion.specs.Insertion.{Result, insertCall}
 use Rattle.insertion.specs.List.{listedNode, listedCount, listCall}
+use Rattle.insertion.specs.Look.{markedCall}
 
 -- what one call hands on to the next: 'the record and the point, corner and neighbour tables'
 pub record Build : Type 0 where
@@ -27,12 +28,15 @@ pub record Build : Type 0 where
 unfoldable pub startBuild : ℕ → ℕ → ℕ → Tables → ℕ → Build
 startBuild X Y Z t w = record { mesh = startedMesh X Y Z; tables = startTables X Y Z t w }
 
--- 'The list holds the three insertions'. 'Work area, nodes and answer bytes may be any at each call': a call has its work area's
--- length, then the answer bytes where they are handed in, then the node or the listed numbers.
+-- 'The list holds the three insertions'; 'an insertion asked for later joins them': that with marks. A look may stand between them.
+-- 'Work area, nodes and answer bytes may be any at each call': a call has its work area's length, then the answer bytes or marks
+-- where they are handed in, then the node or the listed numbers.
 pub data Call : Type 0 where
   by-sphere : ℕ → Position → Call
   by-answers : ℕ → List ℕ → Position → Call
+  by-marks : ℕ → List ℕ → Position → Call
   by-list : ℕ → List ℕ → Call
+  look : ℕ → List ℕ → Position → Call
 
 -- the record after an answer: the answer's own, or, where it has none, the old one
 unfoldable pub recordAfter : Mesh → Inserted → Mesh
@@ -71,7 +75,10 @@ listOutcome m ns l =
 unfoldable pub outcome : Build → Call → Outcome
 outcome b (by-sphere w p) = insertOutcome (b .mesh) p (insertCall (b .mesh) (b .tables) w p sphere)
 outcome b (by-answers w bytes p) = insertOutcome (b .mesh) p (insertCall (b .mesh) (b .tables) w p (handed bytes))
+outcome b (by-marks w marks p) = insertOutcome (b .mesh) p (markedCall (b .mesh) (b .tables) w p marks)
 outcome b (by-list w ns) = listOutcome (b .mesh) ns (listCall (b .mesh) (b .tables) w ns)
+-- the tables are lent for reading alone; 'A look in it accepts no node, though it answers a report' (document 02 §8)
+outcome b (look w marks p) = record { after = b; accepted = [] }
 
 -- 'Each call gets the record and the point, corner and neighbour tables as the last one left them'
 unfoldable pub meshAfter : Build → List Call → Build

@@ -1,4 +1,4 @@
--- Refusal 7 never occurs: not from locate, not from an insertion by the sphere test or by answers, not from a list.
+-- Refusal 7 never occurs: not from locate, not from an insertion of one node, not from a look, not from a list.
 use Prim.Native.Nat.{ℕ, zero, suc, _+_}
 use mathlib.Core.Bool.{Bool, true, false, not, cond, _||_}
 use mathlib.Core.List.{List}
@@ -8,6 +8,7 @@ use native.Mathlib.Decide.{ℕ-discrete}
 use native.Mathlib.Omega.{arith}
 use borrow.Author.Tests.{ne-eqb}
 use lib.Dec.{ltb, eqb}
+use lib.ListN.{length}
 use Rattle.arith.specs.Table.{anyBelow}
 use Rattle.arith.proofs.Flags.{split}
 use Rattle.arith.proofs.Tables.{any-intro}
@@ -24,11 +25,13 @@ use Rattle.locate.specs.declared.Located.the-variants.{Refused as NotLocated}
 use Rattle.locate.specs.Locate.{holds, locateRefusal, locateCall}
 use Rattle.cavity.specs.Answers.{Answers, sphere}
 use Rattle.insertion.specs.declared.Inserted.the-variants.{Refused}
+use Rattle.insertion.specs.declared.Looked.the-variants.{Refused as NotLooked}
 use Rattle.insertion.specs.declared.Listed.{Listed}
 use Rattle.insertion.specs.declared.Listed.the-variants.{Stopped, Refused as AllRefused}
-use Rattle.insertion.specs.Insertion.{cellsMade, nodeRefusal, fewerBytes, insertNode, insertCall}
+use Rattle.insertion.specs.Insertion.{cellsMade, nodeRefusal, fewerBytes, insertRefusal, insertUnless, insertCall}
 use Rattle.insertion.specs.List.{listedNode, listedCount, insertFrom, listCall}
-use Rattle.insertion.proofs.Refusals.{node-accepted, node-refused, call-refused, call-is-node}
+use Rattle.insertion.specs.Look.{cavityMarks, lookRefusal, lookUnless, lookCall, beginsWith, markedRefusal, markedCall}
+use Rattle.insertion.proofs.Refusals.{unless-accepted, unless-refused, node-accepted, node-refused}
 use Rattle.insertion.proofs.Growing.{checks-again}
 use Rattle.insertion.proofs.Steps.{node-in, node-out, list-refused, list-begins}
 use Rattle.covering.specs.Claim.{unheld, NeverUnheld}
@@ -85,18 +88,50 @@ module _ (m : Mesh) (t : Tables) (w : ℕ) (p : Position) where
       go (inl e) = rw e (λ q. let z : _≡_ {A = ℕ} 0 1 = cc in omega arith)
       go (inr e) = rw e (λ q. location-never cc)
 
--- ---- both insertions: the answers a are the sphere test's or handed in
+-- ---- one node: the answers a are the sphere test's or handed in
 
-insert-never-seven : (m : Mesh) (t : Tables) (w : ℕ) (p : Position) (a : Answers) → insertCall m t w p a .answer ≢ Refused unheld
-insert-never-seven m t w p a = go (ℕ-discrete (meshRefusal m t w (fewerBytes a (m .cells))) 0)
-  where
-    go : Dec (meshRefusal m t w (fewerBytes a (m .cells)) ≡ 0) → insertCall m t w p a .answer ≢ Refused unheld
-    go (no d) = rw (call-refused m t w p a refl d) (λ q. mesh-never m t w (fewerBytes a (m .cells)) cc)
-    go (yes z) = rw (call-is-node m t w p a z) (by (ℕ-discrete (nodeRefusal m t w p a) 0))
+module _ (m : Mesh) (t : Tables) (w : ℕ) (p : Position) where
+  insertion-never : (a : Answers) → insertRefusal m t w p a ≢ unheld
+  unfolding insertRefusal
+  insertion-never a = go (ℕ-discrete (meshRefusal m t w (fewerBytes a (m .cells))) 0)
+    where
+      go : Dec (meshRefusal m t w (fewerBytes a (m .cells)) ≡ 0) → insertRefusal m t w p a ≢ unheld
+      go (no d) = rw (ne-eqb (meshRefusal m t w (fewerBytes a (m .cells))) 0 d) (mesh-never m t w (fewerBytes a (m .cells)))
+      go (yes z) = rw z (node-never m t w (passed m t w (fewerBytes a (m .cells)) z) p a)
+
+  -- a call with the refusal r
+  unless-never-seven : (a : Answers) (r : ℕ) → r ≢ unheld → insertUnless r m t p a .answer ≢ Refused unheld
+  unless-never-seven a r never = go (ℕ-discrete r 0)
+    where
+      go : Dec (r ≡ 0) → insertUnless r m t p a .answer ≢ Refused unheld
+      go (yes e) = rw (unless-accepted m t p a e) (λ q. let z : _≡_ {A = ℕ} 0 1 = cc in omega arith)
+      go (no d) = rw (unless-refused m t p a refl d) (λ q. never cc)
+
+  insert-never-seven : (a : Answers) → insertCall m t w p a .answer ≢ Refused unheld
+  unfolding insertCall
+  insert-never-seven a = unless-never-seven a (insertRefusal m t w p a) (insertion-never a)
+
+  -- the insertion's refusal, or another test's where there is none
+  then-never : (k : ℕ) → k ≢ unheld → cond (eqb (insertRefusal m t w p sphere) 0) k (insertRefusal m t w p sphere) ≢ unheld
+  then-never k d = either (eqb (insertRefusal m t w p sphere) 0) k (insertRefusal m t w p sphere) d (insertion-never sphere)
+
+  module _ (marks : List ℕ) where
+    marked-never-seven : markedCall m t w p marks .answer ≢ Refused unheld
+    unfolding markedCall markedRefusal
+    marked-never-seven =
+        unless-never-seven sphere (markedRefusal m t w p marks)
+        (then-never _ (either (beginsWith (cavityMarks m t p sphere) marks) 0 14 (λ e. omega arith) (λ e. omega arith)))
+
+    look-never-seven : lookCall m t w p marks .answer ≢ NotLooked unheld
+    unfolding lookCall lookUnless lookRefusal
+    look-never-seven = go (split (eqb (lookRefusal m t w p marks) 0))
       where
-        by : Dec (nodeRefusal m t w p a ≡ 0) → insertNode m t w p a .answer ≢ Refused unheld
-        by (yes e) = rw (node-accepted m t w p a e) (λ q. let z : _≡_ {A = ℕ} 0 1 = cc in omega arith)
-        by (no d) = rw (node-refused m t w p a refl d) (λ q. node-never m t w (passed m t w _ z) p a cc)
+        never : lookRefusal m t w p marks ≢ unheld
+        never = then-never _ (either (ltb (length marks) (m .cells)) 10 0 (λ e. omega arith) (λ e. omega arith))
+
+        go : (eqb (lookRefusal m t w p marks) 0 ≡ true) ⊎ (eqb (lookRefusal m t w p marks) 0 ≡ false) → lookCall m t w p marks .answer ≢ NotLooked unheld
+        go (inl e) = rw e (λ q. let z : _≡_ {A = ℕ} 0 1 = cc in omega arith)
+        go (inr e) = rw e (λ q. never cc)
 
 -- ---- lists
 
@@ -143,6 +178,8 @@ pub never-seven : NeverUnheld
 never-seven = record {
   located = locate-never-seven;
   inserted = insert-never-seven;
+  marked = marked-never-seven;
+  looked = look-never-seven;
   listed = λ m t w ns. list-never-seven w ns m t .whole;
   stopped = λ m m′ t w ns place. list-never-seven w ns m t .node m′ place;
 }

@@ -13,8 +13,10 @@ use Rattle.locate.specs.Locate.{locateCall}
 use Rattle.cavity.specs.Answers.{Answers}
 use Rattle.insertion.specs.declared.Inserted.the-variants.{Refused}
 use Rattle.insertion.specs.declared.Listed.the-variants.{Stopped, Refused as AllRefused}
+use Rattle.insertion.specs.declared.Looked.the-variants.{Refused as NotLooked}
 use Rattle.insertion.specs.Insertion.{insertCall}
 use Rattle.insertion.specs.List.{listCall}
+use Rattle.insertion.specs.Look.{lookCall, markedCall}
 use Rattle.covering.specs.Place.{Place, InBoxAt, holdsAt, insideAt}
 use Rattle.covering.specs.Clauses.{Clause, sizes, positive-volumes, faces-on-walls, neighbour-numbers, same-points, far-side, volumes-add-up, isMeshBut}
 
@@ -39,6 +41,8 @@ pub record NeverUnheld : Type 0 where
   pub located : (m : Mesh) (t : Tables) (w : ℕ) (p : Position) → locateCall m t w p ≢ NotLocated unheld
   -- by the sphere test and by answers handed in
   pub inserted : (m : Mesh) (t : Tables) (w : ℕ) (p : Position) (a : Answers) → insertCall m t w p a .answer ≢ Refused unheld
+  pub marked : (m : Mesh) (t : Tables) (w : ℕ) (p : Position) (marks : List ℕ) → markedCall m t w p marks .answer ≢ Refused unheld
+  pub looked : (m : Mesh) (t : Tables) (w : ℕ) (p : Position) (marks : List ℕ) → lookCall m t w p marks .answer ≢ NotLooked unheld
   -- neither for the whole list nor for one of its nodes
   pub listed : (m : Mesh) (t : Tables) (w : ℕ) (ns : List ℕ) → listCall m t w ns .answer ≢ AllRefused unheld
   pub stopped : (m m′ : Mesh) (t : Tables) (w : ℕ) (ns : List ℕ) (place : ℕ) → listCall m t w ns .answer ≢ Stopped m′ place unheld

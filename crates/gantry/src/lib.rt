@@ -12,10 +12,11 @@ ghost use Rattle.mesh.specs.Tables.{tablesBefore, tablesAfter, cleared};
 ghost use Rattle.mesh.specs.Check.{isMesh};
 ghost use Rattle.cavity.specs.Answers.{sphere, handed};
 ghost use Rattle.gantry_numbers.specs.Numbers.{testedOf};
-ghost use Rattle.gantry_numbers.specs.Promises.{Starts, Inserts, Lists, Locates, Reads, Writes, Merges, GivesNear};
+ghost use Rattle.gantry_numbers.specs.Promises.{Starts, Inserts, Looks, InsertsMarked, Lists, Locates, Reads, Writes, Merges, GivesNear};
 use gantry_numbers::GantryInserted;
 use gantry_numbers::GantryListed;
 use gantry_numbers::GantryLocated;
+use gantry_numbers::GantryLooked;
 use gantry_numbers::GantryRead;
 use gantry_numbers::GantrySphere;
 use gantry_numbers::GantryStarted;
@@ -23,6 +24,7 @@ use gantry_numbers::GantryWritten;
 use gantry_numbers::inserted;
 use gantry_numbers::listed;
 use gantry_numbers::located;
+use gantry_numbers::looked;
 use gantry_numbers::read;
 use gantry_numbers::started;
 use gantry_numbers::tested;
@@ -30,6 +32,8 @@ use gantry_numbers::written;
 use geometry::Position;
 use geometry::volume::volume6;
 use insertion_list::insert_list;
+use insertion_look::look;
+use insertion_marked::insert_marked;
 use insertion_single::insert;
 use insertion_single::insert_answers;
 use insphere::sphere_test;
@@ -165,6 +169,45 @@ pub extern "C" fn gantry_insert_answers(
 {
     let q = Position { x: x, y: y, z: z };
     let answer = insert_answers(mesh, points, corners, neighbours, work, answers, q);
+    inserted(mesh, answer)
+}
+
+#[no_mangle]
+pub extern "C" fn gantry_look(
+    mesh: Mesh,
+    points: &[u32],
+    corners: &[u16],
+    neighbours: &[u16],
+    work: &mut [u16],
+    marks: &mut [u8],
+    x: u32,
+    y: u32,
+    z: u32,
+) -> GantryLooked
+    ensures { λ r. ⌜ Looks mesh (tablesBefore points corners neighbours) (now (work .entry)) (position x y z) (now (marks .entry))
+        r (now (work .exit)) (now (marks .exit)) ⌝ }
+{
+    let q = Position { x: x, y: y, z: z };
+    looked(look(mesh, points, corners, neighbours, work, marks, q))
+}
+
+#[no_mangle]
+pub extern "C" fn gantry_insert_marked(
+    mesh: Mesh,
+    points: &mut [u32],
+    corners: &mut [u16],
+    neighbours: &mut [u16],
+    work: &mut [u16],
+    marks: &[u8],
+    x: u32,
+    y: u32,
+    z: u32,
+) -> GantryInserted
+    ensures { λ r. ⌜ InsertsMarked mesh (tablesBefore points corners neighbours) (now (work .entry)) (position x y z) (now (marks .entry))
+        r (tablesAfter points corners neighbours) (now (work .exit)) ⌝ }
+{
+    let q = Position { x: x, y: y, z: z };
+    let answer = insert_marked(mesh, points, corners, neighbours, work, marks, q);
     inserted(mesh, answer)
 }
 

@@ -19,8 +19,10 @@ use Rattle.mesh.specs.Tables.{Tables}
 use Rattle.mesh.specs.Start.{StartLeaves}
 use Rattle.cavity.specs.Answers.{Answers}
 use Rattle.insertion.specs.declared.Inserted.{Inserted}
+use Rattle.insertion.specs.declared.Looked.{Looked}
 use Rattle.insertion.specs.declared.Listed.{Listed}
 use Rattle.insertion.specs.Insertion.{InsertLeaves}
+use Rattle.insertion.specs.Look.{LookLeaves, MarkedLeaves}
 use Rattle.insertion.specs.List.{ListLeaves}
 use Rattle.nodefile.specs.declared.Read.{Read}
 use Rattle.nodefile.specs.declared.Written.{Written}
@@ -29,12 +31,13 @@ use Rattle.nodefile.specs.Write.{WriteLeaves}
 use Rattle.merging.specs.Merge.{MergeLeaves}
 use Rattle.gantry_numbers.specs.declared.GantryStarted.{GantryStarted}
 use Rattle.gantry_numbers.specs.declared.GantryInserted.{GantryInserted}
+use Rattle.gantry_numbers.specs.declared.GantryLooked.{GantryLooked}
 use Rattle.gantry_numbers.specs.declared.GantryListed.{GantryListed}
 use Rattle.gantry_numbers.specs.declared.GantrySphere.{GantrySphere}
 use Rattle.gantry_numbers.specs.declared.GantryRead.{GantryRead}
 use Rattle.gantry_numbers.specs.declared.GantryWritten.{GantryWritten}
-use Rattle.gantry_numbers.specs.Numbers.{startedOf, insertedOf, listedOf, sphereOf, testedOf, readOf, writtenOf}
-use Rattle.gantry_numbers.specs.Promises.{Starts, Inserts, Lists, Reads, Writes, Merges, GivesNear}
+use Rattle.gantry_numbers.specs.Numbers.{startedOf, insertedOf, lookedOf, listedOf, sphereOf, testedOf, readOf, writtenOf}
+use Rattle.gantry_numbers.specs.Promises.{Starts, Inserts, Looks, InsertsMarked, Lists, Reads, Writes, Merges, GivesNear}
 
 pub starts : {X Y Z : ℕ} {t t′ : Tables} {ws ws′ : List ℕ} {s : Started} {r : GantryStarted} →
     StartLeaves X Y Z t ws s t′ ws′ → r ≡ startedOf s → Starts X Y Z t ws r t′ ws′
@@ -43,6 +46,14 @@ starts l e = record { answer = e ∙ ap startedOf (l .answer); tables = l .table
 pub inserts : {m : Mesh} {t t′ : Tables} {ws ws′ : List ℕ} {p : Position} {a : Answers} {s : Inserted} {r : GantryInserted} →
     InsertLeaves m t ws p a s t′ ws′ → r ≡ insertedOf m s → Inserts m t ws p a r t′ ws′
 inserts {m} l e = record { answer = e ∙ ap (insertedOf m) (l .answer); tables = l .tables; work = l .work }
+
+pub looks : {m : Mesh} {t : Tables} {ws ws′ marks marks′ : List ℕ} {p : Position} {s : Looked} {r : GantryLooked} →
+    LookLeaves m t ws p marks s ws′ marks′ → r ≡ lookedOf s → Looks m t ws p marks r ws′ marks′
+looks l e = record { answer = e ∙ ap lookedOf (l .answer); marks-left = l .marks-left; work = l .work }
+
+pub inserts-marked : {m : Mesh} {t t′ : Tables} {ws ws′ marks : List ℕ} {p : Position} {s : Inserted} {r : GantryInserted} →
+    MarkedLeaves m t ws p marks s t′ ws′ → r ≡ insertedOf m s → InsertsMarked m t ws p marks r t′ ws′
+inserts-marked {m} l e = record { answer = e ∙ ap (insertedOf m) (l .answer); tables = l .tables; work = l .work }
 
 pub lists : {m : Mesh} {t t′ : Tables} {ws ws′ ns : List ℕ} {s : Listed} {r : GantryListed} →
     ListLeaves m t ws ns s t′ ws′ → r ≡ listedOf m s → Lists m t ws ns r t′ ws′

@@ -12,6 +12,8 @@ use Rattle.locate.specs.declared.Located.{Located}
 use Rattle.locate.specs.declared.Located.the-variants.{Cell, Refused as LocateRefused}
 use Rattle.insertion.specs.declared.Inserted.{Inserted}
 use Rattle.insertion.specs.declared.Inserted.the-variants.{Accepted, Refused}
+use Rattle.insertion.specs.declared.Looked.{Looked}
+use Rattle.insertion.specs.declared.Looked.the-variants.{Reported, Refused as LookRefused}
 use Rattle.insertion.specs.declared.Listed.{Listed}
 use Rattle.insertion.specs.declared.Listed.the-variants.{Ended, Stopped, Refused as ListRefused}
 use Rattle.nodefile.specs.declared.Read.{Read}
@@ -20,6 +22,7 @@ use Rattle.nodefile.specs.declared.Written.{Written}
 use Rattle.nodefile.specs.declared.Written.the-variants.{Bytes, Refused as WriteRefused}
 use Rattle.gantry_numbers.specs.declared.GantryStarted.{GantryStarted}
 use Rattle.gantry_numbers.specs.declared.GantryInserted.{GantryInserted}
+use Rattle.gantry_numbers.specs.declared.GantryLooked.{GantryLooked}
 use Rattle.gantry_numbers.specs.declared.GantryListed.{GantryListed}
 use Rattle.gantry_numbers.specs.declared.GantryLocated.{GantryLocated}
 use Rattle.gantry_numbers.specs.declared.GantrySphere.{GantrySphere}
@@ -48,6 +51,11 @@ insertedOf m (Accepted m′ r) =
     }
 insertedOf m (Refused e) =
     record { refusal = e; mesh = m; point = 0; before = 0; after = 0; made = 0; least = zeroFloat }
+
+unfoldable pub lookedOf : Looked → GantryLooked
+lookedOf (Reported r) =
+    record { refusal = 0; point = r .point; before = r .before; after = r .after; made = r .made; least = r .least }
+lookedOf (LookRefused e) = record { refusal = e; point = 0; before = 0; after = 0; made = 0; least = zeroFloat }
 
 -- the place is that of the refused node, or how many went in; a stopped list has the record that its last accepted node left
 unfoldable pub listedOf : Mesh → Listed → GantryListed

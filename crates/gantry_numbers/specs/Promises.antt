@@ -14,17 +14,19 @@ use Rattle.locate.specs.Locate.{locateCall}
 use Rattle.cavity.specs.Answers.{Answers}
 use Rattle.insertion.specs.Insertion.{insertCall}
 use Rattle.insertion.specs.List.{listCall}
+use Rattle.insertion.specs.Look.{lookCall, markedCall}
 use Rattle.nodefile.specs.Read.{readAnswer, readOutput}
 use Rattle.nodefile.specs.Write.{writeAnswer, writeOutput}
 use Rattle.merging.specs.Merge.{mergeAnswer, mergeOutput}
 use Rattle.gantry_numbers.specs.declared.GantryStarted.{GantryStarted}
 use Rattle.gantry_numbers.specs.declared.GantryInserted.{GantryInserted}
+use Rattle.gantry_numbers.specs.declared.GantryLooked.{GantryLooked}
 use Rattle.gantry_numbers.specs.declared.GantryListed.{GantryListed}
 use Rattle.gantry_numbers.specs.declared.GantryLocated.{GantryLocated}
 use Rattle.gantry_numbers.specs.declared.GantrySphere.{GantrySphere}
 use Rattle.gantry_numbers.specs.declared.GantryRead.{GantryRead}
 use Rattle.gantry_numbers.specs.declared.GantryWritten.{GantryWritten}
-use Rattle.gantry_numbers.specs.Numbers.{startedOf, insertedOf, listedOf, locatedOf, readOf, writtenOf}
+use Rattle.gantry_numbers.specs.Numbers.{startedOf, insertedOf, lookedOf, listedOf, locatedOf, readOf, writtenOf}
 
 -- tables t and a work area ws are lent, and left as t′ and ws′; a refusal, too, is one of the definitions' cases
 pub record Starts (X Y Z : ℕ) (t : Tables) (ws : List ℕ) (r : GantryStarted) (t′ : Tables) (ws′ : List ℕ) : Type 0 where
@@ -36,6 +38,18 @@ pub record Inserts (m : Mesh) (t : Tables) (ws : List ℕ) (p : Position) (a : A
     (r : GantryInserted) (t′ : Tables) (ws′ : List ℕ) : Type 0 where
   pub answer : r ≡ insertedOf m (insertCall m t (length ws) p a .answer)
   pub tables : t′ ≡ insertCall m t (length ws) p a .tables
+  pub work : ws′ ≡ cleared ws
+
+-- marks are lent, and left as marks′
+pub record Looks (m : Mesh) (t : Tables) (ws : List ℕ) (p : Position) (marks : List ℕ) (r : GantryLooked) (ws′ marks′ : List ℕ) : Type 0 where
+  pub answer : r ≡ lookedOf (lookCall m t (length ws) p marks .answer)
+  pub marks-left : marks′ ≡ lookCall m t (length ws) p marks .marks
+  pub work : ws′ ≡ cleared ws
+
+pub record InsertsMarked (m : Mesh) (t : Tables) (ws : List ℕ) (p : Position) (marks : List ℕ)
+    (r : GantryInserted) (t′ : Tables) (ws′ : List ℕ) : Type 0 where
+  pub answer : r ≡ insertedOf m (markedCall m t (length ws) p marks .answer)
+  pub tables : t′ ≡ markedCall m t (length ws) p marks .tables
   pub work : ws′ ≡ cleared ws
 
 pub record Lists (m : Mesh) (t : Tables) (ws ns : List ℕ) (r : GantryListed) (t′ : Tables) (ws′ : List ℕ) : Type 0 where

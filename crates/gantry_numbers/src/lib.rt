@@ -2,9 +2,10 @@
 // field order and layouts are fixed.
 
 ghost use mathlib.Core.Path.{_≡_};
-ghost use Rattle.gantry_numbers.specs.Numbers.{noMesh, startedOf, insertedOf, listedOf, locatedOf, sphereOf, testedOf, readOf, writtenOf};
+ghost use Rattle.gantry_numbers.specs.Numbers.{noMesh, startedOf, insertedOf, lookedOf, listedOf, locatedOf, sphereOf, testedOf, readOf, writtenOf};
 use insertion::Inserted;
 use insertion::Listed;
+use insertion::Looked;
 use insphere::Sphere;
 use insphere::Tested;
 use locate::Located;
@@ -25,6 +26,16 @@ pub struct GantryStarted {
 pub struct GantryInserted {
     pub refusal: u8,
     pub mesh: Mesh,
+    pub point: u32,
+    pub before: u32,
+    pub after: u32,
+    pub made: u32,
+    pub least: f64,
+}
+
+#[repr(C)]
+pub struct GantryLooked {
+    pub refusal: u8,
     pub point: u32,
     pub before: u32,
     pub after: u32,
@@ -112,6 +123,29 @@ pub fn inserted(mesh: Mesh, answer: Inserted) -> GantryInserted
         Inserted::Refused(number) => GantryInserted {
             refusal: number,
             mesh: mesh,
+            point: 0,
+            before: 0,
+            after: 0,
+            made: 0,
+            least: 0.0,
+        },
+    }
+}
+
+pub fn looked(answer: Looked) -> GantryLooked
+    ensures { λ r. ⌜ r ≡ lookedOf answer ⌝ }
+{
+    match answer {
+        Looked::Reported(report) => GantryLooked {
+            refusal: 0,
+            point: report.point,
+            before: report.before,
+            after: report.after,
+            made: report.made,
+            least: report.least,
+        },
+        Looked::Refused(number) => GantryLooked {
+            refusal: number,
             point: 0,
             before: 0,
             after: 0,

@@ -25,7 +25,7 @@ use Rattle.insertion.specs.declared.Listed.the-variants.{Ended, Stopped,
 use Rattle.insertion.specs.declared.Report.{Report}
 use Rattle.insertion.specs.Insertion.{fewerBytes, InsertLeaves}
 use Rattle.insertion.specs.List.{ListLeaves, insertFrom, listedNode, listedCount}
-use Rattle.insertion.specs.Inner.{NodeLeaves, AttemptLeaves, NodesLeave}
+use Rattle.insertion.specs.Inner.{AttemptLeaves, NodesLeave}
 use Rattle.insertion.proofs.Refusals.{refused-number, refused-leaves, node-leaves}
 use Rattle.insertion.proofs.Growing.{accepted-checks, one-point-more}
 use Rattle.insertion.proofs.Steps.{list-goes-on, list-stops, list-ends, list-refused-leaves, list-leaves}
@@ -42,28 +42,28 @@ passed-at m t w fewer e z = passed m t w fewer (sym e ∙ z)
 pub answered-at : (m : Mesh) (t : Tables) (w : ℕ) (bytes : List ℕ) {k : ℕ} → k ≡ meshRefusal m t w (ltb (length bytes) (m .cells)) → k ≡ 0 → m .cells ≤ length bytes
 answered-at m t w bytes e z = ltb-false (length bytes) (m .cells) (enough m t w (ltb (length bytes) (m .cells)) (sym e ∙ z))
 
-module _ (m : Mesh) (t : Tables) (ws : List ℕ) {ws′ : List ℕ} (c : ws′ ≡ cleared ws) where
-  same-work : length ws′ ≡ length ws
-  same-work = ap length c ∙ length-replicate (length ws) 0
+pub same-work : (ws : List ℕ) {ws′ : List ℕ} → ws′ ≡ cleared ws → length ws′ ≡ length ws
+same-work ws c = ap length c ∙ length-replicate (length ws) 0
 
+module _ (m : Mesh) (t : Tables) (ws : List ℕ) {ws′ : List ℕ} (c : ws′ ≡ cleared ws) where
   module _ (p : Position) (a : Answers) where
     pub refused-at : {k : ℕ} → k ≡ meshRefusal m t (length ws′) (fewerBytes a (m .cells)) → k ≢ 0 → InsertLeaves m t ws p a (Refused k) t ws′
-    refused-at e d = refused-leaves m t ws ws′ p a c (e ∙ ap (λ w. meshRefusal m t w (fewerBytes a (m .cells))) same-work) d
+    refused-at e d = refused-leaves m t ws ws′ p a c (e ∙ ap (λ w. meshRefusal m t w (fewerBytes a (m .cells))) (same-work ws c)) d
 
-    pub node-at : {k : ℕ} {r : Inserted} {t′ : Tables} → k ≡ meshRefusal m t (length ws′) (fewerBytes a (m .cells)) → k ≡ 0 →
-        NodeLeaves m t (length ws′) p a r t′ → InsertLeaves m t ws p a r t′ ws′
-    node-at {k} {r} {t′} e z L =
-        let N = subst (λ w. NodeLeaves m t w p a r t′) same-work L in
-        node-leaves m t ws ws′ p a c (sym (e ∙ ap (λ w. meshRefusal m t w (fewerBytes a (m .cells))) same-work) ∙ z) (N .answer) (N .tables)
+    pub node-at : {marks : List ℕ} {k : ℕ} {g : Attempt} {t′ : Tables} → k ≡ meshRefusal m t (length ws′) (fewerBytes a (m .cells)) → k ≡ 0 →
+        AttemptLeaves false marks m t (length ws′) p a g t′ → InsertLeaves m t ws p a (g .inserted) t′ ws′
+    node-at {marks} {k} {g} {t′} e z L =
+        let N = subst (λ w. AttemptLeaves false marks m t w p a g t′) (same-work ws c) L in
+        node-leaves m t ws ws′ p a c (sym (e ∙ ap (λ w. meshRefusal m t w (fewerBytes a (m .cells))) (same-work ws c)) ∙ z) (N .answer) (N .tables)
 
   module _ (ns : List ℕ) where
     pub list-refused-at : {k : ℕ} → k ≡ meshRefusal m t (length ws′) false → k ≢ 0 → ListLeaves m t ws ns (AllRefused k) t ws′
-    list-refused-at e d = list-refused-leaves m t ws ws′ ns c (e ∙ ap (λ w. meshRefusal m t w false) same-work) d
+    list-refused-at e d = list-refused-leaves m t ws ws′ ns c (e ∙ ap (λ w. meshRefusal m t w false) (same-work ws c)) d
 
     pub list-at : {k : ℕ} {r : Listed} {t′ : Tables} → k ≡ meshRefusal m t (length ws′) false → k ≡ 0 → NodesLeave m t (length ws′) ns r t′ → ListLeaves m t ws ns r t′ ws′
     list-at {k} {r} {t′} e z L =
-        let N = subst (λ w. NodesLeave m t w ns r t′) same-work L in
-        let q = list-leaves m t ws ws′ ns c {l = insertFrom (listedCount ns) 0 m t (length ws) ns} (sym (e ∙ ap (λ w. meshRefusal m t w false) same-work) ∙ z) refl in
+        let N = subst (λ w. NodesLeave m t w ns r t′) (same-work ws c) L in
+        let q = list-leaves m t ws ws′ ns c {l = insertFrom (listedCount ns) 0 m t (length ws) ns} (sym (e ∙ ap (λ w. meshRefusal m t w false) (same-work ws c)) ∙ z) refl in
         record { answer = N .answer ∙ q .answer; tables = N .tables ∙ q .tables; work = c }
 
 -- ---- the nodes of a list
@@ -99,24 +99,24 @@ module _ {m₀ : Mesh} {t₀ : Tables} {w : ℕ} {ns : List ℕ} {m : Mesh} {t :
   pub place< : i < 1024
   place< = omega (arith, P .began, P .count, counted m t w (P .mesh) .1)
 
-  pub one-more : i < listedCount ns → {m′ : Mesh} {r : Report} {g : Attempt} {t′ : Tables} → AttemptLeaves m t w (listedNode ns i) sphere g t′ → g .inserted ≡ Accepted m′ r →
+  pub one-more : i < listedCount ns → {marks : List ℕ} {m′ : Mesh} {r : Report} {g : Attempt} {t′ : Tables} → AttemptLeaves false marks m t w (listedNode ns i) sphere g t′ → g .inserted ≡ Accepted m′ r →
       length (t′ .points) ≡ length (t .points) → length (t′ .corners) ≡ length (t .corners) → length (t′ .neighbours) ≡ length (t .neighbours) →
       Inserting m₀ t₀ w ns m′ t′ (i + 1)
-  one-more h {m′} {r} {t′ = t′} L q a b c = record {
+  one-more h {m′ = m′} {r = r} {t′ = t′} L q a b c = record {
     began = P .began;
-    mesh = accepted-checks m t w (listedNode ns i) sphere (P .mesh) (sym q ∙ L .leaves .answer) (L .leaves .tables);
-    count = omega (arith, one-point-more m t w (listedNode ns i) sphere (sym q ∙ L .leaves .answer), P .count);
+    mesh = accepted-checks m t w (listedNode ns i) sphere (P .mesh) (sym q ∙ L .answer) (L .tables);
+    count = omega (arith, one-point-more m t w (listedNode ns i) sphere (sym q ∙ L .answer), P .count);
     points-long = a ∙ P .points-long;
     corners-long = b ∙ P .corners-long;
     neighbours-long = c ∙ P .neighbours-long;
-    rest = sym (list-goes-on m t w ns i (listedCount ns) h (sym q ∙ L .leaves .answer) (L .leaves .tables)) ∙ P .rest;
+    rest = sym (list-goes-on m t w ns i (listedCount ns) h (sym q ∙ L .answer) (L .tables)) ∙ P .rest;
   }
 
-  pub stops-here : i < listedCount ns → {g : Attempt} {e : ℕ} {t′ : Tables} → AttemptLeaves m t w (listedNode ns i) sphere g t′ → g .inserted ≡ Refused e →
+  pub stops-here : i < listedCount ns → {marks : List ℕ} {g : Attempt} {e : ℕ} {t′ : Tables} → AttemptLeaves false marks m t w (listedNode ns i) sphere g t′ → g .inserted ≡ Refused e →
       NodesLeave m₀ t₀ w ns (Stopped m i (g .refusal)) t′
-  stops-here h {g} {e} L q =
-      let s = sym (P .rest) ∙ list-stops m t w ns i (listedCount ns) h (sym q ∙ L .leaves .answer) (L .leaves .tables) in
-      let z : g .refusal ≡ e = L .refusal ∙ refused-number m t w (listedNode ns i) sphere (sym q ∙ L .leaves .answer) in
+  stops-here h {g = g} {e = e} L q =
+      let s = sym (P .rest) ∙ list-stops m t w ns i (listedCount ns) h (sym q ∙ L .answer) (L .tables) in
+      let z : g .refusal ≡ e = L .refusal ∙ refused-number m t w (listedNode ns i) sphere (sym q ∙ L .answer) in
       record { answer = ap (Stopped m i) z ∙ sym (ap (λ l. l .answer) s); tables = sym (ap (λ l. l .tables) s) }
 
   pub ends-here : listedCount ns ≤ i → NodesLeave m₀ t₀ w ns (Ended m i) t
@@ -125,5 +125,6 @@ module _ {m₀ : Mesh} {t₀ : Tables} {w : ℕ} {ns : List ℕ} {m : Mesh} {t :
       record { answer = sym (ap (λ l. l .answer) s); tables = sym (ap (λ l. l .tables) s) }
 
 -- the node as it was read off the list
-pub node-read : {m : Mesh} {t : Tables} {w : ℕ} {p q : Position} {a : Answers} {r : Attempt} {t′ : Tables} → p ≡ q → AttemptLeaves m t w p a r t′ → AttemptLeaves m t w q a r t′
-node-read {m} {t} {w} {a = a} {r = r} {t′ = t′} e L = subst (λ p. AttemptLeaves m t w p a r t′) e L
+pub node-read : {marks : List ℕ} {m : Mesh} {t : Tables} {w : ℕ} {p q : Position} {a : Answers} {r : Attempt} {t′ : Tables} → p ≡ q →
+    AttemptLeaves false marks m t w p a r t′ → AttemptLeaves false marks m t w q a r t′
+node-read {marks} {m} {t} {w} {a = a} {r = r} {t′ = t′} e L = subst (λ p. AttemptLeaves false marks m t w p a r t′) e L

@@ -39,6 +39,25 @@ test-to-zero {b} {k} {r} h e = go b e
     go true q = absurd (omega arith)
     go false q = (refl, q)
 
+-- one test, and then another where it lets pass: both do
+pub both-pass : (r k : ℕ) → cond (eqb r 0) k r ≡ 0 → (r ≡ 0) × (k ≡ 0)
+both-pass r k e = go (ℕ-discrete r 0)
+  where
+    go : Dec (r ≡ 0) → (r ≡ 0) × (k ≡ 0)
+    go (yes z) = (z, rw z at e)
+    go (no d) = absurd (d (rw (ne-eqb r 0 d) at e))
+
+-- what a refusal or none answers and leaves
+module _ (m : Mesh) (t : Tables) (p : Position) (a : Answers) {r : ℕ} where
+  pub unless-accepted : r ≡ 0 →
+      insertUnless r m t p a ≡ record { answer = Accepted (insertedMesh m t p a) (reportOf m t p a); tables = insertedTables m t p a }
+  unfolding insertUnless
+  unless-accepted e = rw e
+
+  pub unless-refused : {k : ℕ} → r ≡ k → k ≢ 0 → insertUnless r m t p a ≡ record { answer = Refused k; tables = t }
+  unfolding insertUnless
+  unless-refused {k} e d = rw (e, ne-eqb k 0 d)
+
 module _ (m : Mesh) (t : Tables) (w : ℕ) (p : Position) (a : Answers) where
   abbrev inside : Bool
   inside = inBox (m .x) (m .y) (m .z) p
@@ -116,17 +135,22 @@ module _ (m : Mesh) (t : Tables) (w : ℕ) (p : Position) (a : Answers) where
 
   pub node-accepted : nodeRefusal m t w p a ≡ 0 →
       insertNode m t w p a ≡ record { answer = Accepted (insertedMesh m t p a) (reportOf m t p a); tables = insertedTables m t p a }
-  unfolding insertNode insertUnless
-  node-accepted e = rw e
+  unfolding insertNode
+  node-accepted e = unless-accepted m t p a e
 
   pub node-refused : {k : ℕ} → nodeRefusal m t w p a ≡ k → k ≢ 0 → insertNode m t w p a ≡ record { answer = Refused k; tables = t }
-  unfolding insertNode insertUnless
-  node-refused {k} e d = rw (e, ne-eqb k 0 d)
+  unfolding insertNode
+  node-refused e d = unless-refused m t p a e d
+
+  -- a call that no test refuses
+  pub tests-passed : insertRefusal m t w p a ≡ 0 → (firstThree ≡ 0) × (nodeRefusal m t w p a ≡ 0)
+  unfolding insertRefusal
+  tests-passed e = both-pass firstThree (nodeRefusal m t w p a) e
 
   -- a call that tests 1 to 3 refuse
   pub call-refused : {k : ℕ} → firstThree ≡ k → k ≢ 0 → insertCall m t w p a ≡ record { answer = Refused k; tables = t }
-  unfolding insertCall insertUnless insertRefusal
-  call-refused {k} e d = rw (e, ne-eqb k 0 d, ne-eqb k 0 d)
+  unfolding insertCall insertRefusal
+  call-refused {k} e d = unless-refused m t p a (rw (e, ne-eqb k 0 d)) d
 
   -- and one that they let pass
   pub call-is-node : firstThree ≡ 0 → insertCall m t w p a ≡ insertNode m t w p a

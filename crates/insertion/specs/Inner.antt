@@ -1,12 +1,12 @@
 -- What the inner functions of an insertion ask and leave.
 use Prim.Native.Nat.{ℕ, _+_, _-_, _≤_}
-use mathlib.Core.Bool.{Bool, true, false, cond}
+use mathlib.Core.Bool.{Bool, true, false, not, cond, _||_}
 use mathlib.Core.List.{List}
 use mathlib.Core.Logic.{_≢_}
 use mathlib.Core.Path.{_≡_}
 use lib.Dec.{ltb, eqb}
 use lib.ListN.{length, getD}
-use Rattle.arith.specs.Table.{anyBelow}
+use Rattle.arith.specs.Table.{tabulate, anyBelow}
 use Rattle.geometry.specs.declared.Position.{Position}
 use Rattle.geometry.specs.Volume.{inBox, samePosition}
 use Rattle.mesh.specs.declared.Mesh.{Mesh}
@@ -14,17 +14,20 @@ use Rattle.mesh.specs.Tables.{Tables, pointCapacity, cellCapacity, point}
 use Rattle.mesh.specs.Check.{isMesh}
 use Rattle.cavity.specs.declared.Node.{Node}
 use Rattle.cavity.specs.declared.Extent.{Extent}
-use Rattle.cavity.specs.Answers.{Answers, answersOf}
-use Rattle.cavity.specs.Inner.{setOf, CavityFound}
+use Rattle.cavity.specs.Answers.{Answers, sphere, answersOf}
+use Rattle.cavity.specs.Inner.{inside, setOf, CavityFound}
 use Rattle.star.specs.Star.{madeCount}
 use Rattle.star.specs.Inner.{Lookup, Numbered}
 use Rattle.insertion.specs.declared.Found.{Found}
+use Rattle.insertion.specs.declared.Report.{Report}
 use Rattle.insertion.specs.declared.Attempt.{Attempt}
 use Rattle.insertion.specs.declared.Inserted.{Inserted}
 use Rattle.insertion.specs.declared.Inserted.the-variants.{Accepted}
 use Rattle.insertion.specs.declared.Listed.{Listed}
-use Rattle.insertion.specs.Insertion.{nodeRefusal, insertNode}
+use Rattle.insertion.specs.declared.Looked.{Looked}
+use Rattle.insertion.specs.Insertion.{Result, nodeRefusal, insertUnless, insertNode}
 use Rattle.insertion.specs.List.{listedCount, insertFrom}
+use Rattle.insertion.specs.Look.{cavityMarks, lookUnless, beginsWith}
 
 -- one of the first np codes is 0: a point lies at the position
 unfoldable pub someZero : List ℕ → ℕ → Bool
@@ -77,22 +80,56 @@ pub record Tested (m : Mesh) (t : Tables) (bytes : List ℕ) (d : Node) (st li f
   pub refusal-is : r .refusal ≡ nodeRefusal m t (d .work) (d .position) (answersOf (d .handed) bytes)
   pub starable : r .refusal ≡ 0 → Starable m t bytes d st li fa nu r
 
--- the record and the report of a node accepted with this cavity and star
+-- the report of a node with this cavity and star
+unfoldable pub reportWith : Mesh → Found → Report
+reportWith m r =
+    record { point = m .points; before = r .extent .before; after = r .extent .after; made = r .made; least = r .extent .least }
+
+-- the record and the report of a node that is accepted with them
 unfoldable pub acceptedWith : Mesh → Found → Inserted
 acceptedWith m r =
     Accepted
     record { x = m .x; y = m .y; z = m .z; points = m .points + 1; cells = m .cells - r .extent .after + r .made }
-    record { point = m .points; before = r .extent .before; after = r .extent .after; made = r .made; least = r .extent .least }
+    (reportWith m r)
 
--- what a node after tests 1 to 3 answers and leaves
-pub record NodeLeaves (m : Mesh) (t : Tables) (w : ℕ) (p : Position) (a : Answers) (r : Inserted) (t′ : Tables) : Type 0 where
-  pub answer : r ≡ insertNode m t w p a .answer
-  pub tables : t′ ≡ insertNode m t w p a .tables
+-- ---- marks
 
--- the same with the refusal's number
-pub record AttemptLeaves (m : Mesh) (t : Tables) (w : ℕ) (p : Position) (a : Answers) (r : Attempt) (t′ : Tables) : Type 0 where
-  pub refusal : r .refusal ≡ nodeRefusal m t w p a
-  pub leaves : NodeLeaves m t w p a (r .inserted) t′
+-- the marks of n cells with the states st
+unfoldable pub stateMarks : ℕ → List ℕ → List ℕ
+stateMarks n st = tabulate n (λ c. cond (inside st c) 1 0)
+
+-- no marks are asked for, or these are those of n cells with the states st
+unfoldable pub marksAllow : Bool → ℕ → List ℕ → List ℕ → Bool
+marksAllow asked n st marks = not asked || beginsWith (stateMarks n st) marks
+
+-- refusals 4 to 8 and, where marks are asked for, 14
+abbrev pub refusalWith : Bool → List ℕ → Mesh → Tables → ℕ → Position → Answers → ℕ
+refusalWith false marks m t w p a = nodeRefusal m t w p a
+refusalWith true marks m t w p a =
+    let r = nodeRefusal m t w p a in cond (eqb r 0) (cond (beginsWith (cavityMarks m t p a) marks) 0 14) r
+
+-- a node after tests 1 to 3, with marks where they are asked for
+abbrev pub insertNodeWith : Bool → List ℕ → Mesh → Tables → ℕ → Position → Answers → Result Inserted
+insertNodeWith false marks m t w p a = insertNode m t w p a
+insertNodeWith true marks m t w p a = insertUnless (refusalWith true marks m t w p a) m t p a
+
+-- what it answers and leaves
+pub record AttemptLeaves (asked : Bool) (marks : List ℕ) (m : Mesh) (t : Tables) (w : ℕ) (p : Position) (a : Answers) (r : Attempt) (t′ : Tables) : Type 0 where
+  pub refusal : r .refusal ≡ refusalWith asked marks m t w p a
+  pub answer : r .inserted ≡ insertNodeWith asked marks m t w p a .answer
+  pub tables : t′ ≡ insertNodeWith asked marks m t w p a .tables
+
+-- refusals 4 to 8 and 10 of a look
+unfoldable pub nodeLookRefusal : Mesh → Tables → ℕ → Position → List ℕ → ℕ
+nodeLookRefusal m t w p marks =
+    let r = nodeRefusal m t w p sphere in cond (eqb r 0) (cond (ltb (length marks) (m .cells)) 10 0) r
+
+-- what a look after tests 1 to 3 answers and leaves
+pub record NodeLooked (m : Mesh) (t : Tables) (w : ℕ) (p : Position) (marks : List ℕ) (r : Looked) (marks′ : List ℕ) : Type 0 where
+  pub answer : r ≡ lookUnless (nodeLookRefusal m t w p marks) m t p marks .answer
+  pub marks-left : marks′ ≡ lookUnless (nodeLookRefusal m t w p marks) m t p marks .marks
+
+-- ---- lists
 
 -- what a list after tests 1 to 3 answers and leaves
 pub record NodesLeave (m : Mesh) (t : Tables) (w : ℕ) (ns : List ℕ) (r : Listed) (t′ : Tables) : Type 0 where

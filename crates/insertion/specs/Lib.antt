@@ -1,3 +1,4 @@
 pub mod Insertion
 pub mod List
+pub mod Look
 pub mod Inner

@@ -26,6 +26,12 @@ pub enum Listed {
     Refused(u8),
 }
 
+// The report of the insertion that was looked at, or the refusal's number.
+pub enum Looked {
+    Reported(Report),
+    Refused(u8),
+}
+
 // What tests 4 to 8 found: the refusal's number, 0 where there is none, the cavity's extent, and how many cells its star makes.
 pub struct Found {
     pub refusal: u8,

@@ -39,6 +39,8 @@ fn insert_nodes(
             work,
             &none,
             false,
+            &none,
+            false,
             point_at(nodes, i),
         );
         let answer = attempt.inserted;

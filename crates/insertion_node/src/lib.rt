@@ -13,12 +13,13 @@ use geometry::Position;
 use insertion::Attempt;
 use insertion::Inserted;
 use insertion_find::find;
+use insertion_marks::marks_allow;
 use insertion_report::accepted;
 use mesh::Mesh;
 use star::Replaced;
 use star_replace::replace_cavity;
 
-// A node by the sphere test or by answers handed in.
+// A node by the sphere test or by answers handed in; where marks are asked for, only if these are the marks of a look.
 pub fn insert_node(
     mesh: Mesh,
     points: &mut [u32],
@@ -27,10 +28,13 @@ pub fn insert_node(
     work: usize,
     answers: &[u8],
     handed: bool,
+    marks: &[u8],
+    asked: bool,
     q: Position,
 ) -> Attempt
     requires { ⌜ (isMesh mesh (tablesIn points corners neighbours) work ≡ true) × (handed ≡ true → mesh .cells ≤ length (now answers)) ⌝ }
-    ensures { λ r. ⌜ AttemptLeaves mesh (tablesBefore points corners neighbours) work q (answersOf handed (now (answers .entry))) r (tablesAfter points corners neighbours) ⌝ }
+    ensures { λ r. ⌜ AttemptLeaves asked (now (marks .entry)) mesh (tablesBefore points corners neighbours) work q (answersOf handed (now (answers .entry)))
+        r (tablesAfter points corners neighbours) ⌝ }
 {
     let node = Node {
         position: q,
@@ -60,6 +64,12 @@ pub fn insert_node(
         return Attempt {
             refusal: refusal,
             inserted: Inserted::Refused(refusal),
+        };
+    }
+    if !marks_allow(asked, node.cells, &state, marks) {
+        return Attempt {
+            refusal: 14,
+            inserted: Inserted::Refused(14),
         };
     }
     let extent = found.extent;

@@ -28,7 +28,18 @@ pub fn insert(
         return Inserted::Refused(refusal);
     }
     let none = [0u8; 1];
-    let attempt = insert_node(mesh, points, corners, neighbours, w, &none, false, q);
+    let attempt = insert_node(
+        mesh,
+        points,
+        corners,
+        neighbours,
+        w,
+        &none,
+        false,
+        &none,
+        false,
+        q,
+    );
     attempt.inserted
 }
 
@@ -51,6 +62,18 @@ pub fn insert_answers(
     if refusal != 0 {
         return Inserted::Refused(refusal);
     }
-    let answered = insert_node(mesh, points, corners, neighbours, w, answers, true, q);
+    let none = [0u8; 1];
+    let answered = insert_node(
+        mesh,
+        points,
+        corners,
+        neighbours,
+        w,
+        answers,
+        true,
+        &none,
+        false,
+        q,
+    );
     answered.inserted
 }

@@ -21,8 +21,8 @@ use Rattle.insertion.specs.declared.Report.{Report}
 use Rattle.insertion.specs.declared.Inserted.the-variants.{Accepted}
 use Rattle.insertion.specs.Insertion.{firstCavity, lastCavity, cellsMade, nodeRefusal, reportOf, insertedMesh, insertedTables, insertCall}
 use Rattle.insertion.proofs.Refusals.{MeshFor, NodeFits, node-fits, node-accepted, call-is-node, accepted-node, accepted-call}
-use Rattle.calls.specs.Calls.{Build, startBuild, Call, by-sphere, by-answers, by-list, outcome, meshAfter}
-use Rattle.calls.proofs.EachNode.{built, KeptBy, insert-keeps, list-keeps}
+use Rattle.calls.specs.Calls.{Build, startBuild, Call, by-sphere, by-answers, by-marks, by-list, look, outcome, meshAfter}
+use Rattle.calls.proofs.EachNode.{built, KeptBy, insert-keeps, marked-keeps, list-keeps, look-keeps}
 use Rattle.calls.proofs.Calls.{every-list-of-calls}
 use Rattle.spheres.specs.Exact.{Empty, ExactInsertion}
 use Rattle.spheres.specs.Claim.{OwnCall, OwnCalls, EmptySpheres, EqualSizes}
@@ -72,7 +72,9 @@ own-call : (b : Build) (c : Call) → OwnCall b c → Clear b → Clear (outcome
 unfolding OwnCall
 own-call b (by-sphere w p) o G = unfold outcome in insert-keeps (λ b ps. Clear b) sphere by-own-test (b .mesh) (b .tables) w p [] G
 own-call b (by-answers w bytes p) o G = none-accepted b w bytes p G o
+own-call b (by-marks w marks p) o G = unfold outcome in marked-keeps (λ b ps. Clear b) by-own-test (b .mesh) (b .tables) w marks p [] G
 own-call b (by-list w ns) o G = unfold outcome in list-keeps (λ b ps. Clear b) by-own-test (b .mesh) (b .tables) w ns [] G
+own-call b (look w marks p) o G = look-keeps (λ b ps. Clear b) b w marks p [] G
 
 own-calls : (b : Build) (cs : List Call) → OwnCalls b cs → Clear b → Clear (meshAfter b cs)
 unfolding OwnCalls meshAfter

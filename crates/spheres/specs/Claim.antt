@@ -12,14 +12,16 @@ use Rattle.cavity.specs.Answers.{sphere, cellE}
 use Rattle.insertion.specs.declared.Report.{Report}
 use Rattle.insertion.specs.declared.Inserted.the-variants.{Accepted}
 use Rattle.insertion.specs.Insertion.{insertCall}
-use Rattle.calls.specs.Calls.{Build, Call, by-sphere, by-answers, by-list, outcome}
+use Rattle.calls.specs.Calls.{Build, Call, by-sphere, by-answers, by-marks, by-list, look, outcome}
 use Rattle.spheres.specs.Exact.{Empty}
 
--- by the sphere test; or with answers handed in, and no node accepted
+-- by the sphere test, with marks or without, or a look; or with answers handed in, and no node accepted
 unfoldable pub OwnCall : Build → Call → Type 0
 OwnCall b (by-sphere w p) = Unit {0}
 OwnCall b (by-answers w bytes p) = outcome b (by-answers w bytes p) .accepted ≡ []
+OwnCall b (by-marks w marks p) = Unit {0}
 OwnCall b (by-list w ns) = Unit {0}
+OwnCall b (look w marks p) = Unit {0}
 
 -- each call, on what those before it left
 unfoldable pub OwnCalls : Build → List Call → Type 0

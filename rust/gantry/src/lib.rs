@@ -61,7 +61,7 @@ pub mod raw;
 mod refusal;
 
 pub use geometry::{sphere_test, volume6, SphereAnswer};
-pub use mesh::{Cell, Mesh, Report, Room};
+pub use mesh::{Cell, Look, Mesh, Report, Room};
 pub use nodefile::{merge, read_nodes, NodeFile};
 pub use refusal::{Refusal, Stopped};
 

@@ -55,9 +55,50 @@ pub struct Report {
     pub least: f64,
 }
 
+/// What a [look](Mesh::look) at a node gives: the report of its insertion, and the cells that it would replace.
+#[derive(Clone, Debug, PartialEq)]
+pub struct Look {
+    position: Position,
+    report: Report,
+    marks: Vec<u8>,
+}
+
+impl Look {
+    /// The node that was looked at.
+    pub fn position(&self) -> Position {
+        self.position
+    }
+
+    /// What its insertion would report.
+    pub fn report(&self) -> Report {
+        self.report
+    }
+
+    /// The cells that it would replace, by rising number.
+    ///
+    /// ```
+    /// use gantry::Mesh;
+    ///
+    /// let mut mesh = Mesh::start(4, 4, 4)?;
+    /// mesh.insert([1, 2, 3])?;
+    /// let look = mesh.look([3, 1, 1])?;
+    /// assert!(look.cells().eq([0, 1, 2, 3, 4, 5, 6, 7, 8]));
+    /// # Ok::<(), gantry::Refusal>(())
+    /// ```
+    pub fn cells(&self) -> impl Iterator<Item = usize> + '_ {
+        (0..self.marks.len()).filter(|&cell| self.marks[cell] == 1)
+    }
+
+    /// A byte for each cell: 1 where the node would replace it, else 0.
+    pub fn marks(&self) -> &[u8] {
+        &self.marks
+    }
+}
+
 /// Cells over the nodes of a box, with their tables.
 ///
-/// All calls take `&mut self`, [`locate`](Mesh::locate) and [`check`](Mesh::check) too: each is lent the work area.
+/// All calls take `&mut self`, [`look`](Mesh::look), [`locate`](Mesh::locate) and [`check`](Mesh::check) too: each is lent the
+/// work area.
 ///
 /// Two are equal where box, room and all table entries are: then every call answers alike on both.
 ///
@@ -181,6 +222,60 @@ impl Mesh {
     pub fn insert_answers(&mut self, answers: &[u8], p: Position) -> Result<Report, Refusal> {
         let (record, mut tables) = self.lend();
         let inserted = raw::insert_answers(record, &mut tables, answers, p);
+        self.take(inserted)
+    }
+
+    /// Looks at the insertion of a node by the sphere test, without making it. Refused where [`insert`](Mesh::insert) would
+    /// be.
+    ///
+    /// ```
+    /// use gantry::{Mesh, Refusal};
+    ///
+    /// let mut mesh = Mesh::start(4, 4, 4)?;
+    /// let before = mesh.clone();
+    /// let look = mesh.look([2, 2, 0])?;
+    /// assert_eq!((look.report().after, look.report().made), (6, 10));
+    /// assert_eq!(mesh, before);
+    /// assert_eq!(mesh.look([4, 4, 4]), Err(Refusal::Taken));
+    /// # Ok::<(), Refusal>(())
+    /// ```
+    pub fn look(&mut self, p: Position) -> Result<Look, Refusal> {
+        let mut marks = vec![0; self.record.cells as usize];
+        let (record, mut tables) = self.lend();
+        let looked = raw::look(record, &mut tables, &mut marks, p);
+        accepted(looked.refusal)?;
+        let report = Report {
+            point: looked.point as usize,
+            before: looked.before as usize,
+            after: looked.after as usize,
+            made: looked.made as usize,
+            least: looked.least,
+        };
+        Ok(Look {
+            position: p,
+            report,
+            marks,
+        })
+    }
+
+    /// Inserts the node that was looked at, as [`insert`](Mesh::insert) does, if it would still replace the cells that the
+    /// look marked. Refused as `insert` is, and with [`Refusal::OtherMarks`] where the look is out of date.
+    ///
+    /// ```
+    /// use gantry::{Mesh, Refusal};
+    ///
+    /// let mut mesh = Mesh::start(4, 4, 4)?;
+    /// let (first, second) = (mesh.look([1, 2, 3])?, mesh.look([3, 1, 1])?);
+    /// assert_eq!(mesh.insert_looked(&first)?, first.report());
+    /// // The cells that the second look marked are gone.
+    /// assert_eq!(mesh.insert_looked(&second), Err(Refusal::OtherMarks));
+    /// let again = mesh.look(second.position())?;
+    /// assert_eq!(mesh.insert_looked(&again)?, again.report());
+    /// # Ok::<(), Refusal>(())
+    /// ```
+    pub fn insert_looked(&mut self, look: &Look) -> Result<Report, Refusal> {
+        let (record, mut tables) = self.lend();
+        let inserted = raw::insert_marked(record, &mut tables, &look.marks, look.position);
         self.take(inserted)
     }
 

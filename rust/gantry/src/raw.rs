@@ -71,6 +71,24 @@ pub struct Inserted {
     pub least: f64,
 }
 
+/// `gantry_looked`: the report of the insertion that was looked at.
+#[repr(C)]
+#[derive(Clone, Copy, Debug)]
+pub struct Looked {
+    /// 0 for accepted, else the refusal's number.
+    pub refusal: u8,
+    /// The number that the new point would get.
+    pub point: u32,
+    /// The cavity's size before its correction.
+    pub before: u32,
+    /// The cavity's size after it.
+    pub after: u32,
+    /// How many cells would be made.
+    pub made: u32,
+    /// The least T over the cavity before correction, a float that may be 0 or below.
+    pub least: f64,
+}
+
 /// `gantry_listed`
 #[repr(C)]
 #[derive(Clone, Copy, Debug)]
@@ -172,6 +190,18 @@ unsafe extern "C" {
         neighbours: *mut u16, neighbours_len: usize, work: *mut u16, work_len: usize,
         answers: *const u8, answers_len: usize, x: u32, y: u32, z: u32,
     ) -> Inserted;
+    fn gantry_look(
+        mesh: Record,
+        points: *mut u32, points_len: usize, corners: *mut u16, corners_len: usize,
+        neighbours: *mut u16, neighbours_len: usize, work: *mut u16, work_len: usize,
+        marks: *mut u8, marks_len: usize, x: u32, y: u32, z: u32,
+    ) -> Looked;
+    fn gantry_insert_marked(
+        mesh: Record,
+        points: *mut u32, points_len: usize, corners: *mut u16, corners_len: usize,
+        neighbours: *mut u16, neighbours_len: usize, work: *mut u16, work_len: usize,
+        marks: *const u8, marks_len: usize, x: u32, y: u32, z: u32,
+    ) -> Inserted;
     fn gantry_insert_list(
         mesh: Record,
         points: *mut u32, points_len: usize, corners: *mut u16, corners_len: usize,
@@ -257,6 +287,23 @@ pub fn insert_answers(
     call!(gantry_insert_answers(mesh; tables; answers.as_ptr(), answers.len(), x, y, z))
 }
 
+/// `gantry_look`: the report of a node's insertion by the sphere test, and a mark for each cell, 1 where the node would
+/// replace it and 0 elsewhere; marks beyond the cells stay. Refusals 1 to 8, then 10.
+pub fn look(mesh: Record, tables: &mut Tables, marks: &mut [u8], [x, y, z]: Position) -> Looked {
+    call!(gantry_look(mesh; tables; marks.as_mut_ptr(), marks.len(), x, y, z))
+}
+
+/// `gantry_insert_marked`: one node, by the sphere test, only if a look would now give these marks. Refusals 1 to 8, then
+/// 14.
+pub fn insert_marked(
+    mesh: Record,
+    tables: &mut Tables,
+    marks: &[u8],
+    [x, y, z]: Position,
+) -> Inserted {
+    call!(gantry_insert_marked(mesh; tables; marks.as_ptr(), marks.len(), x, y, z))
+}
+
 /// `gantry_insert_list`: nodes, three numbers each, up to the first that is refused; one or two numbers after the last whole
 /// node are not read. Refusals 1 to 8.
 pub fn insert_list(mesh: Record, tables: &mut Tables, nodes: &[u32]) -> Listed {
@@ -310,6 +357,9 @@ const _: () = {
     assert!(offset_of!(Inserted, point) == 24 && offset_of!(Inserted, before) == 28);
     assert!(offset_of!(Inserted, after) == 32 && offset_of!(Inserted, made) == 36);
     assert!(offset_of!(Inserted, least) == 40);
+    assert!(size_of::<Looked>() == 32 && offset_of!(Looked, point) == 4);
+    assert!(offset_of!(Looked, before) == 8 && offset_of!(Looked, after) == 12);
+    assert!(offset_of!(Looked, made) == 16 && offset_of!(Looked, least) == 24);
     assert!(size_of::<Listed>() == 28 && offset_of!(Listed, mesh) == 4);
     assert!(offset_of!(Listed, place) == 24);
     assert!(size_of::<Located>() == 8 && offset_of!(Located, cell) == 4);

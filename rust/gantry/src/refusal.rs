@@ -59,6 +59,8 @@ refusals! {
     Trailer = 9, "trailer", "a file under 20 bytes, or a wrong count or distance in its trailer";
     NoPlace = 10, "no place", "the output is shorter than what is to be written";
     FlatCell = 11, "flat cell", "a sphere test on a cell of volume 0 or less";
+    OtherMarks = 14, "other marks", "the marks handed in are too few, or not those that a look would now give",
+        "Of a [`Look`](crate::Look) that is out of date.";
     UnequalSides = 19, "unequal sides", "the boxes of two files to be merged differ in a side";
 }
 

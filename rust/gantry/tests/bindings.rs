@@ -19,10 +19,10 @@ fn lattice(parts: u32, spacing: u32) -> Vec<Position> {
 fn numbers_and_names_are_the_table_s() {
     let names = Refusal::ALL.map(Refusal::name);
     let table = "short, box, no mesh, outside, taken, points full, unheld, cells full, trailer, no place, flat cell, \
-                 unequal sides";
+                 other marks, unequal sides";
     assert_eq!(names.join(", "), table);
     let numbers = Refusal::ALL.map(Refusal::number);
-    assert_eq!(numbers, [1, 2, 3, 4, 5, 6, 7, 8, 9, 10, 11, 19]);
+    assert_eq!(numbers, [1, 2, 3, 4, 5, 6, 7, 8, 9, 10, 11, 14, 19]);
     for number in 0..=u8::MAX {
         let refusal = Refusal::ALL.into_iter().find(|r| r.number() == number);
         assert_eq!(Refusal::from_number(number), refusal);

@@ -1,11 +1,11 @@
 use borrow.Author.Needs.{needs}
-use Rattle.insertion_single.proofs.insert.Statement.{statement}
-use Rattle.insertion_single.proofs.insert.Tie as tie
 use mathlib.Core.Path.{sym}
 use mathlib.Core.Bool.{false, true≢false}
 use Rattle.cavity.specs.Answers.{sphere}
 use Rattle.insertion.specs.Insertion.{fewerBytes}
 use Rattle.insertion.proofs.Leaving.{refused-at, passed-at, node-at}
+use Rattle.insertion_single.proofs.insert.Statement.{statement}
+use Rattle.insertion_single.proofs.insert.Tie as tie
 
 clear-requires : tie.Need-clear-requires
 clear-requires c κs = search needs
@@ -32,8 +32,13 @@ returns c = refused-at _ _ _ (c .before .before .before .before .before .before 
 slice-aggregate-insert-node : tie.Need-slice-aggregate-insert-node
 slice-aggregate-insert-node c = search needs
 
+slice-aggregate-insert-node-2 : tie.Need-slice-aggregate-insert-node-2
+slice-aggregate-insert-node-2 c = search needs
+
 insert-node-requires : tie.Need-insert-node-requires
-insert-node-requires c κs = (passed-at _ _ _ false (c .before .before .before .before .before .mesh-refusal .ensures) (c .before .before .before .before .if1 .left), λ e. absurd (true≢false (sym e)))
+insert-node-requires c κs =
+    let e = c .before .before .before .before .before in
+    (passed-at _ _ _ false (e .before .mesh-refusal .ensures) (e .if1 .left), λ h. absurd (true≢false (sym h)))
 
 same-length-5 : tie.Need-same-length-5
 same-length-5 c = search needs
@@ -49,7 +54,9 @@ same-length-8 c = search needs
 
 returns-2 : tie.Need-returns-2
 unfolding fewerBytes
-returns-2 c = node-at _ _ _ (c .before .before .before .before .before .before .before .before .before .before .before .before .before .before .before .before .before .before .clear .ensures) _ sphere (c .before .before .before .before .before .before .before .before .before .before .before .before .mesh-refusal .ensures) (c .before .before .before .before .before .before .before .before .before .before .before .if1 .left) (c .before .before .before .before .before .before .insert-node .ensures .leaves)
+returns-2 c =
+    let e = c .before .before .before .before .before .before .before .before .before .before .before .before in
+    node-at _ _ _ (e .before .before .before .before .before .before .before .clear .ensures) _ sphere (e .before .mesh-refusal .ensures) (e .if1 .left) (c .before .before .before .before .before .before .insert-node .ensures)
 
 pub insert-spec : {M : Type 1} → statement M
 insert-spec =
@@ -63,6 +70,7 @@ insert-spec =
     same-length-4
     returns
     slice-aggregate-insert-node
+    slice-aggregate-insert-node-2
     insert-node-requires
     same-length-5
     same-length-6

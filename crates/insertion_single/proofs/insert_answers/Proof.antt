@@ -1,9 +1,9 @@
 use borrow.Author.Needs.{needs}
-use Rattle.insertion_single.proofs.insert_answers.Statement.{statement}
-use Rattle.insertion_single.proofs.insert_answers.Tie as tie
 use Rattle.cavity.specs.Answers.{handed}
 use Rattle.insertion.specs.Insertion.{fewerBytes}
 use Rattle.insertion.proofs.Leaving.{refused-at, passed-at, answered-at, node-at}
+use Rattle.insertion_single.proofs.insert_answers.Statement.{statement}
+use Rattle.insertion_single.proofs.insert_answers.Tie as tie
 
 clear-requires : tie.Need-clear-requires
 clear-requires c κs = search needs
@@ -28,13 +28,19 @@ same-length-4 c = search needs
 
 returns : tie.Need-returns
 unfolding fewerBytes
-returns c = let s = c .before .before .before .before .before .before .before .before .before .before .before .before .before .before .before in refused-at _ _ _ (c .before .before .before .before .before .before .before .before .clear .ensures) _ (handed (s .args .answers .now)) (c .before .mesh-refusal .ensures) (c .if1 .taken)
+returns c =
+    let s = c .before .before .before .before .before .before .before .before .before .before .before .before .before .before .before in
+    refused-at _ _ _ (c .before .before .before .before .before .before .before .before .clear .ensures) _ (handed (s .args .answers .now)) (c .before .mesh-refusal .ensures) (c .if1 .taken)
+
+slice-aggregate-insert-node : tie.Need-slice-aggregate-insert-node
+slice-aggregate-insert-node c = search needs
 
 insert-node-requires : tie.Need-insert-node-requires
 insert-node-requires c κs =
-    let s = c .before .before .before .before .before .before .before .before .before .before .before .before .before .before .before .before .before .before in (
-      passed-at _ _ _ _ (c .before .before .before .before .mesh-refusal .ensures) (c .before .before .before .if1 .left),
-      λ e. answered-at _ _ _ (s .args .answers .now) (c .before .before .before .before .mesh-refusal .ensures) (c .before .before .before .if1 .left),
+    let e = c .before .before .before .before in
+    let s = e .before .before .before .before .before .before .before .before .before .before .before .before .before .before .before in (
+      passed-at _ _ _ _ (e .before .mesh-refusal .ensures) (e .if1 .left),
+      λ h. answered-at _ _ _ (s .args .answers .now) (e .before .mesh-refusal .ensures) (e .if1 .left),
     )
 
 same-length-5 : tie.Need-same-length-5
@@ -51,7 +57,10 @@ same-length-8 c = search needs
 
 returns-2 : tie.Need-returns-2
 unfolding fewerBytes
-returns-2 c = let s = c .before .before .before .before .before .before .before .before .before .before .before .before .before .before .before .before .before .before .before .before .before .before .before .before .before in node-at _ _ _ (c .before .before .before .before .before .before .before .before .before .before .before .before .before .before .before .before .before .before .clear .ensures) _ (handed (s .args .answers .now)) (c .before .before .before .before .before .before .before .before .before .before .before .mesh-refusal .ensures) (c .before .before .before .before .before .before .before .before .before .before .if1 .left) (c .before .before .before .before .before .before .insert-node .ensures .leaves)
+returns-2 c =
+    let e = c .before .before .before .before .before .before .before .before .before .before .before in
+    let s = e .before .before .before .before .before .before .before .before .before .before .before .before .before .before .before in
+    node-at _ _ _ (e .before .before .before .before .before .before .before .before .clear .ensures) _ (handed (s .args .answers .now)) (e .before .mesh-refusal .ensures) (e .if1 .left) (c .before .before .before .before .before .before .insert-node .ensures)
 
 pub insert-answers-spec : {M : Type 1} → statement M
 insert-answers-spec =
@@ -65,6 +74,7 @@ insert-answers-spec =
     same-length-3
     same-length-4
     returns
+    slice-aggregate-insert-node
     insert-node-requires
     same-length-5
     same-length-6

@@ -1,0 +1,194 @@
+-- A look, and an insertion with marks: their refusals, and their contracts from what their parts leave.
+use Prim.Native.Nat.{ℕ, zero, suc, _+_, _≤_, _<_}
+use mathlib.Core.Bool.{Bool, true, false, _&&_, cond, true≢false}
+use mathlib.Core.List.{List, [], _∷_}
+use mathlib.Core.Logic.{_≢_}
+use mathlib.Core.Path.{_≡_, refl, sym, ap, ap₂, _∙_, subst}
+use native.Mathlib.Numerals.{add-one}
+use native.Mathlib.Omega.{arith}
+use borrow.Author.Tests.{eq-eqb, ne-eqb, lt-ltb, le-ltb}
+use mir.Val.{boolByte}
+use lib.Dec.{ltb, eqb}
+use lib.ListN.{length, getD, drop, drop-of-length-le}
+use lib.Seq.{drop-cons}
+use Rattle.arith.proofs.Flags.{and-right, fails}
+use Rattle.arith.proofs.Tables.{tabulate-length, tabulate-at}
+use Rattle.geometry.specs.declared.Position.{Position}
+use Rattle.mesh.specs.declared.Mesh.{Mesh}
+use Rattle.mesh.specs.Tables.{Tables, cleared}
+use Rattle.mesh.specs.Start.{over}
+use Rattle.mesh.specs.Refusal.{meshRefusal}
+use Rattle.cavity.specs.declared.Node.{Node}
+use Rattle.cavity.specs.Answers.{sphere, answersOf}
+use Rattle.cavity.specs.Inner.{inside}
+use Rattle.insertion.specs.declared.Found.{Found}
+use Rattle.insertion.specs.declared.Report.{Report}
+use Rattle.insertion.specs.declared.Attempt.{Attempt}
+use Rattle.insertion.specs.declared.Inserted.the-variants.{Refused}
+use Rattle.insertion.specs.declared.Looked.{Looked}
+use Rattle.insertion.specs.declared.Looked.the-variants.{Reported, Refused as LookRefused}
+use Rattle.insertion.specs.Insertion.{nodeRefusal, fewerBytes, insertRefusal, reportOf, insertUnless}
+use Rattle.insertion.specs.Look.{cavityMarks, lookRefusal, lookUnless, lookCall, LookLeaves, beginsWith, markedRefusal, markedCall, MarkedLeaves}
+use Rattle.insertion.specs.Inner.{Starable, Tested, reportWith, stateMarks, marksAllow, refusalWith, AttemptLeaves, nodeLookRefusal, NodeLooked}
+use Rattle.insertion.proofs.Refusals.{both-pass, unless-refused}
+use Rattle.insertion.proofs.Acceptance.{none-refused, report-is, marks-are}
+use Rattle.insertion.proofs.Leaving.{same-work}
+
+-- ---- bytes
+
+-- a flag as code turns it into a byte
+pub byte-is : (b : Bool) → boolByte b ≡ cond b 1 0
+byte-is true = refl
+byte-is false = refl
+
+pub begins-long : (expected bytes : List ℕ) → beginsWith expected bytes ≡ true → length expected ≤ length bytes
+unfolding beginsWith
+begins-long [] bytes e = omega arith
+begins-long (x ∷ expected) [] e = absurd (true≢false (sym e))
+begins-long (x ∷ expected) (b ∷ bytes) e =
+    let h = begins-long expected bytes (and-right (eqb b x) (beginsWith expected bytes) e) in omega arith
+
+-- from place i on
+pub begins-at : (expected bytes : List ℕ) (i : ℕ) → i < length expected → i < length bytes →
+    beginsWith (drop i expected) (drop i bytes) ≡ (eqb (getD bytes i 0) (getD expected i 0) && beginsWith (drop (i + 1) expected) (drop (i + 1) bytes))
+unfolding beginsWith
+begins-at expected bytes i h k = rw (drop-cons expected i 0 h, drop-cons bytes i 0 k, add-one)
+
+-- ---- the marks of n cells with the states st
+
+module _ (n : ℕ) (st : List ℕ) where
+  pub marks-length : length (stateMarks n st) ≡ n
+  unfolding stateMarks
+  marks-length = tabulate-length n _
+
+  pub mark-at : (c : ℕ) → c < n → getD (stateMarks n st) c 0 ≡ cond (inside st c) 1 0
+  unfolding stateMarks
+  mark-at c h = tabulate-at n _ c 0 h
+
+  module _ (marks : List ℕ) where
+    -- the first c bytes are these marks
+    abbrev pub Matching : ℕ → Type 0
+    Matching c = beginsWith (drop c (stateMarks n st)) (drop c marks) ≡ beginsWith (stateMarks n st) marks
+
+    one-mark : (c : ℕ) → c < n → c < length marks →
+        beginsWith (drop c (stateMarks n st)) (drop c marks) ≡
+        (eqb (getD marks c 0) (cond (inside st c) 1 0) && beginsWith (drop (c + 1) (stateMarks n st)) (drop (c + 1) marks))
+    one-mark c h k =
+        begins-at (stateMarks n st) marks c (omega (arith, h, marks-length)) k ∙
+        ap (λ x. eqb (getD marks c 0) x && beginsWith (drop (c + 1) (stateMarks n st)) (drop (c + 1) marks)) (mark-at c h)
+
+    pub matching-more : (c : ℕ) → c < n → c < length marks → Matching c → getD marks c 0 ≡ cond (inside st c) 1 0 → Matching (c + 1)
+    matching-more c h k M e = sym (rw (eq-eqb (getD marks c 0) (cond (inside st c) 1 0) e) at (one-mark c h k)) ∙ M
+
+    pub no-marks-asked : {asked : Bool} → asked ≡ false → true ≡ marksAllow asked n st marks
+    unfolding marksAllow
+    no-marks-asked e = rw e
+
+    module _ {asked : Bool} (e : asked ≡ true) where
+      asked-is : marksAllow asked n st marks ≡ beginsWith (stateMarks n st) marks
+      unfolding marksAllow
+      asked-is = rw e
+
+      pub too-few-marks : length marks < n → false ≡ marksAllow asked n st marks
+      too-few-marks h =
+          sym (asked-is ∙ fails (beginsWith (stateMarks n st) marks) (λ b. omega (arith, begins-long (stateMarks n st) marks b, marks-length)))
+
+      pub mark-differs : (c : ℕ) → c < n → c < length marks → Matching c → getD marks c 0 ≢ cond (inside st c) 1 0 → false ≡ marksAllow asked n st marks
+      mark-differs c h k M d = sym (asked-is ∙ (sym M ∙ rw (ne-eqb (getD marks c 0) (cond (inside st c) 1 0) d) at (one-mark c h k)))
+
+      pub marks-match : (c : ℕ) → n ≤ c → Matching c → true ≡ marksAllow asked n st marks
+      unfolding beginsWith
+      marks-match c h M = sym (asked-is ∙ (sym M ∙ rw (drop-of-length-le (stateMarks n st) {i = c} (omega (arith, h, marks-length)))))
+
+-- ---- the calls' refusals, from those of tests 1 to 3
+
+module _ (m : Mesh) (t : Tables) (w : ℕ) (p : Position) (marks : List ℕ) where
+  look-first : {k : ℕ} → meshRefusal m t w false ≡ k → k ≢ 0 → lookRefusal m t w p marks ≡ k
+  unfolding lookRefusal insertRefusal fewerBytes
+  look-first {k} e d = rw (e, ne-eqb k 0 d, ne-eqb k 0 d)
+
+  look-passes : meshRefusal m t w false ≡ 0 → lookRefusal m t w p marks ≡ nodeLookRefusal m t w p marks
+  unfolding lookRefusal nodeLookRefusal insertRefusal fewerBytes
+  look-passes e = rw e
+
+  marked-first : {k : ℕ} → meshRefusal m t w false ≡ k → k ≢ 0 → markedRefusal m t w p marks ≡ k
+  unfolding markedRefusal insertRefusal fewerBytes
+  marked-first {k} e d = rw (e, ne-eqb k 0 d, ne-eqb k 0 d)
+
+  marked-passes : meshRefusal m t w false ≡ 0 → markedRefusal m t w p marks ≡ refusalWith true marks m t w p sphere
+  unfolding markedRefusal insertRefusal fewerBytes
+  marked-passes e = rw e
+
+  -- an insertion with marks that no test refuses: the plain one is not refused either
+  pub marked-accepted : markedRefusal m t w p marks ≡ 0 → insertRefusal m t w p sphere ≡ 0
+  unfolding markedRefusal
+  marked-accepted e = both-pass (insertRefusal m t w p sphere) _ e .0
+
+-- ---- the calls' contracts
+
+module _ (m : Mesh) (t : Tables) (ws : List ℕ) {ws′ : List ℕ} (c : ws′ ≡ cleared ws) (p : Position) (marks : List ℕ) {k : ℕ} (e : k ≡ meshRefusal m t (length ws′) false) where
+  first-three : meshRefusal m t (length ws) false ≡ k
+  first-three = sym (e ∙ ap (λ w. meshRefusal m t w false) (same-work ws c))
+
+  pub look-refused-at : k ≢ 0 → LookLeaves m t ws p marks (LookRefused k) ws′ marks
+  unfolding lookCall lookUnless
+  look-refused-at d =
+      let q = look-first m t (length ws) p marks first-three d in
+      record { answer = rw (q, ne-eqb k 0 d); marks-left = rw (q, ne-eqb k 0 d); work = c }
+
+  pub look-at : k ≡ 0 → {r : Looked} {marks′ : List ℕ} → NodeLooked m t (length ws′) p marks r marks′ → LookLeaves m t ws p marks r ws′ marks′
+  unfolding lookCall
+  look-at z {r} {marks′} L =
+      let N = subst (λ w. NodeLooked m t w p marks r marks′) (same-work ws c) L in
+      let q = look-passes m t (length ws) p marks (first-three ∙ z) in
+      record { answer = rw q (N .answer); marks-left = rw q (N .marks-left); work = c }
+
+  pub marked-refused-at : k ≢ 0 → MarkedLeaves m t ws p marks (Refused k) t ws′
+  unfolding markedCall
+  marked-refused-at d =
+      let q = unless-refused m t p sphere (marked-first m t (length ws) p marks first-three d) d in
+      record { answer = sym (ap (λ l. l .answer) q); tables = sym (ap (λ l. l .tables) q); work = c }
+
+  pub marked-at : k ≡ 0 → {g : Attempt} {t′ : Tables} → AttemptLeaves true marks m t (length ws′) p sphere g t′ → MarkedLeaves m t ws p marks (g .inserted) t′ ws′
+  unfolding markedCall
+  marked-at z {g} {t′} L =
+      let N = subst (λ w. AttemptLeaves true marks m t w p sphere g t′) (same-work ws c) L in
+      let q = marked-passes m t (length ws) p marks (first-three ∙ z) in
+      record { answer = rw q (N .answer); tables = rw q (N .tables); work = c }
+
+-- ---- a look after tests 1 to 3: a node by the sphere test, with marks to write
+
+pub looked-refused : {m : Mesh} {t : Tables} {bytes : List ℕ} {d : Node} {st li fa nu : List ℕ} {r : Found} →
+    Tested m t bytes d st li fa nu r → answersOf (d .handed) bytes ≡ sphere → (marks : List ℕ) → r .refusal ≢ 0 →
+    NodeLooked m t (d .work) (d .position) marks (LookRefused (r .refusal)) marks
+unfolding lookUnless nodeLookRefusal
+looked-refused {m} {t} {d = d} {r = r} T own marks z =
+    let q : nodeRefusal m t (d .work) (d .position) sphere ≡ r .refusal = sym (T .refusal-is ∙ ap (nodeRefusal m t (d .work) (d .position)) own) in
+    record { answer = rw (q, ne-eqb (r .refusal) 0 z, ne-eqb (r .refusal) 0 z); marks-left = rw (q, ne-eqb (r .refusal) 0 z, ne-eqb (r .refusal) 0 z) }
+
+module _ {m : Mesh} {t : Tables} {bytes : List ℕ} {d : Node} {st li fa nu : List ℕ} {r : Found} (S : Starable m t bytes d st li fa nu r)
+    (own : answersOf (d .handed) bytes ≡ sphere) (marks : List ℕ) where
+  abbrev p : Position
+  p = d .position
+
+  accepted : nodeRefusal m t (d .work) p sphere ≡ 0
+  accepted = sym (ap (nodeRefusal m t (d .work) p) own) ∙ none-refused S
+
+  count : d .cells ≡ m .cells
+  count = S .admitted .node .cells-are
+
+  pub looked-short : length marks < d .cells → NodeLooked m t (d .work) (d .position) marks (LookRefused 10) marks
+  unfolding lookUnless nodeLookRefusal
+  looked-short h =
+      let f = lt-ltb (length marks) (m .cells) (omega (arith, h, count)) in
+      record { answer = rw (accepted, f); marks-left = rw (accepted, f) }
+
+  pub looked-reported : d .cells ≤ length marks → {g : Report} {marks′ : List ℕ} → g ≡ reportWith m r → marks′ ≡ over (stateMarks (d .cells) st) marks →
+      NodeLooked m t (d .work) (d .position) marks (Reported g) marks′
+  unfolding lookUnless nodeLookRefusal
+  looked-reported h eg em =
+      let f = le-ltb (length marks) (m .cells) (omega (arith, h, count)) in
+      record {
+        answer = rw (accepted, f) (ap Reported (eg ∙ (report-is S ∙ ap (reportOf m t p) own)));
+        marks-left = rw (accepted, f) (em ∙ ap (λ l. over l marks) (marks-are S ∙ ap (cavityMarks m t p) own));
+      }

@@ -1,0 +1,72 @@
+-- Document 02 §6: looking at an insertion by the sphere test, and inserting with the marks of a look.
+use Prim.Native.Nat.{ℕ}
+use mathlib.Core.Bool.{Bool, true, false, _&&_, cond}
+use mathlib.Core.List.{List, [], _∷_}
+use mathlib.Core.Path.{_≡_}
+use lib.Dec.{ltb, eqb}
+use lib.ListN.{length}
+use Rattle.arith.specs.Table.{tabulate}
+use Rattle.geometry.specs.declared.Position.{Position}
+use Rattle.mesh.specs.declared.Mesh.{Mesh}
+use Rattle.mesh.specs.Tables.{Tables, cleared}
+use Rattle.mesh.specs.Start.{over}
+use Rattle.cavity.specs.Answers.{Answers, sphere}
+use Rattle.cavity.specs.Cavity.{inSet}
+use Rattle.insertion.specs.declared.Inserted.{Inserted}
+use Rattle.insertion.specs.declared.Looked.{Looked}
+use Rattle.insertion.specs.declared.Looked.the-variants.{Reported, Refused}
+use Rattle.insertion.specs.Insertion.{Result, lastCavity, insertRefusal, reportOf, insertUnless}
+
+-- 'marks each cell of the corrected spot with byte 1, all other cells with 0'
+unfoldable pub cavityMarks : Mesh → Tables → Position → Answers → List ℕ
+cavityMarks m t p a = tabulate (m .cells) (λ c. cond (inSet (lastCavity m t p a) c) 1 0)
+
+-- 'it is refused where the insertion would be, and with 10 if the marks have fewer bytes than there are cells'
+unfoldable pub lookRefusal : Mesh → Tables → ℕ → Position → List ℕ → ℕ
+lookRefusal m t w p marks =
+    let r = insertRefusal m t w p sphere in cond (eqb r 0) (cond (ltb (length marks) (m .cells)) 10 0) r
+
+-- what a look answers, and the marks that it leaves; the tables are lent for reading alone
+pub record LookResult : Type 0 where
+  pub answer : Looked
+  pub marks : List ℕ
+
+-- with the refusal r: 'A look answers the report'; a refused one leaves all marks as they were. Marks beyond the cell count stay.
+unfoldable pub lookUnless : ℕ → Mesh → Tables → Position → List ℕ → LookResult
+lookUnless r m t p marks =
+    cond (eqb r 0)
+    record { answer = Reported (reportOf m t p sphere); marks = over (cavityMarks m t p sphere) marks }
+    record { answer = Refused r; marks = marks }
+
+-- the call
+unfoldable pub lookCall : Mesh → Tables → ℕ → Position → List ℕ → LookResult
+lookCall m t w p marks = lookUnless (lookRefusal m t w p marks) m t p marks
+
+-- what looking at p answers and leaves in the work area ws and the marks
+pub record LookLeaves (m : Mesh) (t : Tables) (ws : List ℕ) (p : Position) (marks : List ℕ)
+    (r : Looked) (ws′ marks′ : List ℕ) : Type 0 where
+  pub answer : r ≡ lookCall m t (length ws) p marks .answer
+  pub marks-left : marks′ ≡ lookCall m t (length ws) p marks .marks
+  pub work : ws′ ≡ cleared ws
+
+-- bytes begins with all of expected; what follows is not read
+unfoldable pub beginsWith : List ℕ → List ℕ → Bool
+beginsWith [] bytes = true
+beginsWith (x ∷ expected) [] = false
+beginsWith (x ∷ expected) (b ∷ bytes) = eqb b x && beginsWith expected bytes
+
+-- 'goes through only if a look now would mark the same': '14 if the marks differ or are too few, after 8'
+unfoldable pub markedRefusal : Mesh → Tables → ℕ → Position → List ℕ → ℕ
+markedRefusal m t w p marks =
+    let r = insertRefusal m t w p sphere in cond (eqb r 0) (cond (beginsWith (cavityMarks m t p sphere) marks) 0 14) r
+
+-- 'Its result equals the plain insertion.'
+unfoldable pub markedCall : Mesh → Tables → ℕ → Position → List ℕ → Result Inserted
+markedCall m t w p marks = insertUnless (markedRefusal m t w p marks) m t p sphere
+
+-- what inserting p with marks answers and leaves in the tables t and the work area ws
+pub record MarkedLeaves (m : Mesh) (t : Tables) (ws : List ℕ) (p : Position) (marks : List ℕ)
+    (r : Inserted) (t′ : Tables) (ws′ : List ℕ) : Type 0 where
+  pub answer : r ≡ markedCall m t (length ws) p marks .answer
+  pub tables : t′ ≡ markedCall m t (length ws) p marks .tables
+  pub work : ws′ ≡ cleared ws

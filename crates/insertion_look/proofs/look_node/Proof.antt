@@ -1,0 +1,92 @@
+use borrow.Author.Needs.{needs}
+use mathlib.Core.Bool.{true≢false}
+use mathlib.Core.Path.{refl, sym}
+use native.Mathlib.Omega.{arith}
+use lib.ListN.{length-replicate, getD-replicate}
+use Rattle.arith.proofs.Tables.{zeros-at}
+use Rattle.mesh.specs.Tables.{none}
+use Rattle.insertion.proofs.Acceptance.{states-long, report-asks}
+use Rattle.insertion.proofs.Looking.{looked-refused, looked-short, looked-reported}
+use Rattle.insertion_look.proofs.look_node.Statement.{statement}
+use Rattle.insertion_look.proofs.look_node.Tie as tie
+
+-- where find has answered, from where its refusal was tested
+abbrev found-at : tie.Else1 → tie.After-find
+found-at c = c .before .before .before .before .before
+
+cast-if2 : tie.Need-cast-if2
+cast-if2 c = search needs
+
+cast-t17 : tie.Need-cast-t17
+cast-t17 c = search needs
+
+slice-aggregate-find : tie.Need-slice-aggregate-find
+slice-aggregate-find c = search needs
+
+slice-aggregate-find-2 : tie.Need-slice-aggregate-find-2
+slice-aggregate-find-2 c = search needs
+
+slice-aggregate-find-3 : tie.Need-slice-aggregate-find-3
+slice-aggregate-find-3 c = search needs
+
+slice-aggregate-find-4 : tie.Need-slice-aggregate-find-4
+slice-aggregate-find-4 c = search needs
+
+slice-aggregate-find-5 : tie.Need-slice-aggregate-find-5
+slice-aggregate-find-5 c = search needs
+
+find-requires : tie.Need-find-requires
+find-requires c κs =
+    (
+      record { mesh = c .before .before .before .before .before .before .before .before .before .before .before .pre; points-are = refl; cells-are = refl; answered = λ h. absurd (true≢false (sym h)) },
+      record { states = refl; entries = refl; zero = zeros-at 4096 },
+      record { long = refl; zero = zeros-at 4096 },
+      record { long = length-replicate 8192 none; last = getD-replicate 8192 8191 none 0 (omega arith) },
+    )
+
+returns : tie.Need-returns
+returns c = looked-refused (c .before .before .before .before .before .find .ensures) refl _ (c .if1 .taken)
+
+returns-2 : tie.Need-returns-2
+returns-2 c = let e = c .before .before in looked-short (found-at e .find .ensures .starable (e .if1 .left)) refl _ (c .if2 .taken)
+
+slice-aggregate-write-marks : tie.Need-slice-aggregate-write-marks
+slice-aggregate-write-marks c = sym (found-at (c .before .before .before) .find .kept .1 .1 .1 .1 .1 .1 .0)
+
+write-marks-requires : tie.Need-write-marks-requires
+write-marks-requires c κs =
+    let e = c .before .before .before .before in
+    (states-long (found-at e .find .ensures .starable (e .if1 .left)), c .before .before .if2 .left)
+
+report-requires : tie.Need-report-requires
+report-requires c κs =
+    let e = c .before .before .before .before .before .before .before in
+    report-asks (found-at e .find .ensures .starable (e .if1 .left))
+
+same-length : tie.Need-same-length
+same-length c = search needs
+
+returns-3 : tie.Need-returns-3
+returns-3 c =
+    let e = c .before .before .before .before .before .before .before .before in
+    looked-reported (found-at e .find .ensures .starable (e .if1 .left)) refl _ (c .before .before .before .before .before .before .if2 .left) (c .report .ensures) (c .before .before .before .write-marks .ensures)
+
+pub look-node-spec : {M : Type 1} → statement M
+look-node-spec =
+    tie.close
+    (tie.spec
+    cast-if2
+    cast-t17
+    slice-aggregate-find
+    slice-aggregate-find-2
+    slice-aggregate-find-3
+    slice-aggregate-find-4
+    slice-aggregate-find-5
+    find-requires
+    returns
+    returns-2
+    slice-aggregate-write-marks
+    write-marks-requires
+    report-requires
+    same-length
+    returns-3)

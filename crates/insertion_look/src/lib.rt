@@ -1,0 +1,86 @@
+// Looking at a node: the call. It finds the cavity as an insertion does, and writes no table.
+
+ghost use mathlib.Core.Bool.{true};
+ghost use mathlib.Core.Path.{_≡_};
+ghost use Rattle.mesh.specs.Check.{isMesh};
+ghost use Rattle.mesh.specs.Tables.{tablesIn, tablesBefore};
+ghost use Rattle.insertion.specs.Look.{LookLeaves};
+ghost use Rattle.insertion.specs.Inner.{NodeLooked};
+use cavity::Node;
+use geometry::Position;
+use insertion::Looked;
+use insertion_find::find;
+use insertion_marks::write_marks;
+use insertion_report::report;
+use mesh::Mesh;
+use mesh_check::mesh_refusal;
+use mesh_tables::clear;
+
+// A look after tests 1 to 3. No mark is written before every test has passed.
+fn look_node(
+    mesh: Mesh,
+    points: &[u32],
+    corners: &[u16],
+    neighbours: &[u16],
+    work: usize,
+    marks: &mut [u8],
+    q: Position,
+) -> Looked
+    requires { ⌜ isMesh mesh (tablesIn points corners neighbours) work ≡ true ⌝ }
+    ensures { λ r. ⌜ NodeLooked mesh (tablesBefore points corners neighbours) work q (now (marks .entry)) r (now (marks .exit)) ⌝ }
+{
+    let node = Node {
+        position: q,
+        points: mesh.points as usize,
+        cells: mesh.cells as usize,
+        work: work,
+        handed: false,
+    };
+    let none = [0u8; 1];
+    let mut state = [0u8; 4096];
+    let mut list = [0u16; 4096];
+    let mut faces = [0u8; 4096];
+    let mut numbers = [65535u16; 8192]; // for each of 4,096 cells, and a place for none
+    let found = find(
+        mesh,
+        points,
+        corners,
+        neighbours,
+        &none,
+        node,
+        &mut state,
+        &mut list,
+        &mut faces,
+        &mut numbers,
+    );
+    let refusal = found.refusal;
+    if refusal != 0 {
+        return Looked::Refused(refusal);
+    }
+    if marks.len() < node.cells {
+        return Looked::Refused(10);
+    }
+    write_marks(node.cells, &state, marks);
+    Looked::Reported(report(mesh, found))
+}
+
+// Looks at the insertion of a node by the sphere test: its report, and a mark for each cell, 1 where it would be replaced.
+pub fn look(
+    mesh: Mesh,
+    points: &[u32],
+    corners: &[u16],
+    neighbours: &[u16],
+    work: &mut [u16],
+    marks: &mut [u8],
+    q: Position,
+) -> Looked
+    ensures { λ r. ⌜ LookLeaves mesh (tablesBefore points corners neighbours) (now (work .entry)) q (now (marks .entry)) r (now (work .exit)) (now (marks .exit)) ⌝ }
+{
+    clear(work);
+    let w = work.len();
+    let refusal = mesh_refusal(mesh, points, corners, neighbours, w, false);
+    if refusal != 0 {
+        return Looked::Refused(refusal);
+    }
+    look_node(mesh, points, corners, neighbours, w, marks, q)
+}
