@@ -108,16 +108,17 @@ gantry_inserted gantry_insert_answers(gantry_mesh mesh, GANTRY_TABLES,
 
 /*
  * Looks at the insertion of a node by the sphere test, and inserts nothing. The answer is the report that gantry_insert would give. marks
- * gets a byte for each cell: 1 for a cell that the node would replace, 0 for any other; bytes beyond the cell count stay as they were, and
- * all of them do where the look is refused. Writes the work area and marks alone. Refusals 1 to 8, each where gantry_insert would answer
- * it, then 10 for fewer bytes than cells.
+ * gets a byte for each cell: 1 where the node would replace it, 0 elsewhere; bytes beyond the cell count stay as they were, and all of them
+ * do where the look is refused. Writes the work area and marks alone. Refusals 1 to 8, just where gantry_insert would answer them, then 10
+ * for fewer bytes than cells.
  */
 gantry_looked gantry_look(gantry_mesh mesh, GANTRY_TABLES, uint8_t *marks, size_t marks_len, uint32_t x, uint32_t y, uint32_t z);
 
 /*
  * Inserts a node as gantry_insert does, but only if a look would now give these marks: each byte up to the cell count must be exactly the
- * one that gantry_look would write; bytes beyond are not read. With the marks of a look at this node, on record and tables as they were
- * then and with no less room, it does what gantry_insert does. Refusals 1 to 8, then 14. Proved in crates/look_first.
+ * one that gantry_look would write; bytes beyond are not read. After a look at this node, with its marks, with record and tables as it left
+ * them and a work area of the same length, the node goes in, with the report that the look gave; with other marks the answer is 14. That is
+ * proved in crates/look_first. Refusals 1 to 8, then 14.
  */
 gantry_inserted gantry_insert_marked(gantry_mesh mesh, GANTRY_TABLES,
                                      const uint8_t *marks, size_t marks_len, uint32_t x, uint32_t y, uint32_t z);

@@ -16,12 +16,12 @@ use Rattle.mesh.proofs.Verdict.{passed}
 use Rattle.cavity.specs.Answers.{Answers, sphere, handed}
 use Rattle.insertion.specs.Insertion.{nodeRefusal, fewerBytes, insertRefusal, insertedMesh, insertedTables, insertUnless, insertCall}
 use Rattle.insertion.specs.List.{listedNode, listedCount, insertFrom, listCall}
-use Rattle.insertion.specs.Look.{markedRefusal, markedCall}
+use Rattle.insertion.specs.Look.{lookCall, markedRefusal, markedCall}
 use Rattle.insertion.proofs.Refusals.{unless-accepted, unless-refused, node-accepted, node-refused, tests-passed}
-use Rattle.insertion.proofs.Looking.{marked-accepted}
+use Rattle.insertion.proofs.Looking.{tables-stay, marked-accepted}
 use Rattle.insertion.proofs.Growing.{checks-again}
 use Rattle.insertion.proofs.Steps.{list-refused, list-begins, node-in, node-out}
-use Rattle.calls.specs.Calls.{Build, Call, by-sphere, by-answers, by-marks, by-list, look, recordAfter, recordAfterList, acceptedNode, acceptedNodes, Outcome, insertOutcome, listOutcome, outcome, meshAfter, acceptedBy}
+use Rattle.calls.specs.Calls.{Build, Call, by-sphere, by-answers, by-marks, by-list, look, recordAfter, recordAfterList, acceptedNode, acceptedNodes, Outcome, insertOutcome, listOutcome, lookOutcome, outcome, meshAfter, acceptedBy}
 
 abbrev pub built : Mesh → Tables → Build
 built m t = record { mesh = m; tables = t }
@@ -63,9 +63,10 @@ module _ (P : Build → List Position → Type 0) where
   unfolding markedCall
   marked-keeps more m t w marks p ps K = unless-keeps sphere more m t w p ps (markedRefusal m t w p marks) (marked-accepted m t w p marks) K
 
-  pub look-keeps : (b : Build) (w : ℕ) (marks : List ℕ) (p : Position) (ps : List Position) → P b ps → Keeps ps (outcome b (look w marks p))
-  unfolding outcome
-  look-keeps b w marks p ps K = same-kept b ps K
+  pub look-keeps : (m : Mesh) (t : Tables) (w : ℕ) (marks : List ℕ) (p : Position) (ps : List Position) → P (built m t) ps →
+      Keeps ps (lookOutcome m (lookCall m t w p marks))
+  unfolding lookOutcome
+  look-keeps m t w marks p ps K = subst (λ x. P (built m x) (ps ++ [])) (sym (tables-stay m t w p marks)) (same-kept (built m t) ps K)
 
   module _ (more : KeptBy sphere) where
     -- k nodes from place i on, with those before i accepted; m₀ is the record that the list call was given
@@ -118,7 +119,7 @@ module _ (P : Build → List Position → Type 0) where
     call-keeps b (by-answers w bytes p) ps K = insert-keeps (handed bytes) (more (handed bytes)) (b .mesh) (b .tables) w p ps K
     call-keeps b (by-marks w marks p) ps K = marked-keeps (more sphere) (b .mesh) (b .tables) w marks p ps K
     call-keeps b (by-list w ns) ps K = list-keeps (more sphere) (b .mesh) (b .tables) w ns ps K
-    call-keeps b (look w marks p) ps K = look-keeps b w marks p ps K
+    call-keeps b (look w marks p) ps K = look-keeps (b .mesh) (b .tables) w marks p ps K
 
     pub calls-keep : (b : Build) (cs : List Call) (ps : List Position) → P b ps → P (meshAfter b cs) (ps ++ acceptedBy b cs)
     unfolding meshAfter acceptedBy

@@ -17,7 +17,7 @@ use Rattle.insertion.specs.declared.Listed.{Listed}
 use Rattle.insertion.specs.declared.Listed.the-variants.{Ended, Stopped, Refused as AllRefused}
 use Rattle.insertion.specs.Insertion.{Result, insertCall}
 use Rattle.insertion.specs.List.{listedNode, listedCount, listCall}
-use Rattle.insertion.specs.Look.{markedCall}
+use Rattle.insertion.specs.Look.{LookResult, lookCall, markedCall}
 
 -- what one call hands on to the next: 'the record and the point, corner and neighbour tables'
 pub record Build : Type 0 where
@@ -72,13 +72,16 @@ unfoldable pub listOutcome : Mesh → List ℕ → Result Listed → Outcome
 listOutcome m ns l =
     record { after = record { mesh = recordAfterList m (l .answer); tables = l .tables }; accepted = acceptedNodes ns (l .answer) }
 
+-- 'A look in it accepts no node, though it answers a report' (document 02 §8)
+unfoldable pub lookOutcome : Mesh → LookResult → Outcome
+lookOutcome m l = record { after = record { mesh = m; tables = l .tables }; accepted = [] }
+
 unfoldable pub outcome : Build → Call → Outcome
 outcome b (by-sphere w p) = insertOutcome (b .mesh) p (insertCall (b .mesh) (b .tables) w p sphere)
 outcome b (by-answers w bytes p) = insertOutcome (b .mesh) p (insertCall (b .mesh) (b .tables) w p (handed bytes))
 outcome b (by-marks w marks p) = insertOutcome (b .mesh) p (markedCall (b .mesh) (b .tables) w p marks)
 outcome b (by-list w ns) = listOutcome (b .mesh) ns (listCall (b .mesh) (b .tables) w ns)
--- the tables are lent for reading alone; 'A look in it accepts no node, though it answers a report' (document 02 §8)
-outcome b (look w marks p) = record { after = b; accepted = [] }
+outcome b (look w marks p) = lookOutcome (b .mesh) (lookCall (b .mesh) (b .tables) w p marks)
 
 -- 'Each call gets the record and the point, corner and neighbour tables as the last one left them'
 unfoldable pub meshAfter : Build → List Call → Build

@@ -185,7 +185,7 @@ pub extern "C" fn gantry_look(
     z: u32,
 ) -> GantryLooked
     ensures { λ r. ⌜ Looks mesh (tablesBefore points corners neighbours) (now (work .entry)) (position x y z) (now (marks .entry))
-        r (now (work .exit)) (now (marks .exit)) ⌝ }
+        r (tablesAfter points corners neighbours) (now (work .exit)) (now (marks .exit)) ⌝ }
 {
     let q = Position { x: x, y: y, z: z };
     looked(look(mesh, points, corners, neighbours, work, marks, q))

@@ -47,9 +47,9 @@ pub inserts : {m : Mesh} {t t′ : Tables} {ws ws′ : List ℕ} {p : Position} 
     InsertLeaves m t ws p a s t′ ws′ → r ≡ insertedOf m s → Inserts m t ws p a r t′ ws′
 inserts {m} l e = record { answer = e ∙ ap (insertedOf m) (l .answer); tables = l .tables; work = l .work }
 
-pub looks : {m : Mesh} {t : Tables} {ws ws′ marks marks′ : List ℕ} {p : Position} {s : Looked} {r : GantryLooked} →
-    LookLeaves m t ws p marks s ws′ marks′ → r ≡ lookedOf s → Looks m t ws p marks r ws′ marks′
-looks l e = record { answer = e ∙ ap lookedOf (l .answer); marks-left = l .marks-left; work = l .work }
+pub looks : {m : Mesh} {t t′ : Tables} {ws ws′ marks marks′ : List ℕ} {p : Position} {s : Looked} {r : GantryLooked} →
+    LookLeaves m t ws p marks s t′ ws′ marks′ → r ≡ lookedOf s → Looks m t ws p marks r t′ ws′ marks′
+looks l e = record { answer = e ∙ ap lookedOf (l .answer); tables = l .tables; marks-left = l .marks-left; work = l .work }
 
 pub inserts-marked : {m : Mesh} {t t′ : Tables} {ws ws′ marks : List ℕ} {p : Position} {s : Inserted} {r : GantryInserted} →
     MarkedLeaves m t ws p marks s t′ ws′ → r ≡ insertedOf m s → InsertsMarked m t ws p marks r t′ ws′

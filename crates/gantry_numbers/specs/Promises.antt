@@ -40,9 +40,11 @@ pub record Inserts (m : Mesh) (t : Tables) (ws : List ℕ) (p : Position) (a : A
   pub tables : t′ ≡ insertCall m t (length ws) p a .tables
   pub work : ws′ ≡ cleared ws
 
--- marks are lent, and left as marks′
-pub record Looks (m : Mesh) (t : Tables) (ws : List ℕ) (p : Position) (marks : List ℕ) (r : GantryLooked) (ws′ marks′ : List ℕ) : Type 0 where
+-- marks are lent too, and left as marks′
+pub record Looks (m : Mesh) (t : Tables) (ws : List ℕ) (p : Position) (marks : List ℕ)
+    (r : GantryLooked) (t′ : Tables) (ws′ marks′ : List ℕ) : Type 0 where
   pub answer : r ≡ lookedOf (lookCall m t (length ws) p marks .answer)
+  pub tables : t′ ≡ lookCall m t (length ws) p marks .tables
   pub marks-left : marks′ ≡ lookCall m t (length ws) p marks .marks
   pub work : ws′ ≡ cleared ws
 

@@ -136,13 +136,13 @@ pub fn looked(answer: Looked) -> GantryLooked
     ensures { λ r. ⌜ r ≡ lookedOf answer ⌝ }
 {
     match answer {
-        Looked::Reported(report) => GantryLooked {
+        Looked::Reported(seen) => GantryLooked {
             refusal: 0,
-            point: report.point,
-            before: report.before,
-            after: report.after,
-            made: report.made,
-            least: report.least,
+            point: seen.point,
+            before: seen.before,
+            after: seen.after,
+            made: seen.made,
+            least: seen.least,
         },
         Looked::Refused(number) => GantryLooked {
             refusal: number,

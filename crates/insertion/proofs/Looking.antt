@@ -2,7 +2,7 @@
 use Prim.Native.Nat.{ℕ, zero, suc, _+_, _≤_, _<_}
 use mathlib.Core.Bool.{Bool, true, false, _&&_, cond, true≢false}
 use mathlib.Core.List.{List, [], _∷_}
-use mathlib.Core.Logic.{_≢_}
+use mathlib.Core.Logic.{_≢_, _⊎_, inl, inr}
 use mathlib.Core.Path.{_≡_, refl, sym, ap, ap₂, _∙_, subst}
 use native.Mathlib.Numerals.{add-one}
 use native.Mathlib.Omega.{arith}
@@ -11,7 +11,7 @@ use mir.Val.{boolByte}
 use lib.Dec.{ltb, eqb}
 use lib.ListN.{length, getD, drop, drop-of-length-le}
 use lib.Seq.{drop-cons}
-use Rattle.arith.proofs.Flags.{and-right, fails}
+use Rattle.arith.proofs.Flags.{split, and-right, fails}
 use Rattle.arith.proofs.Tables.{tabulate-length, tabulate-at}
 use Rattle.geometry.specs.declared.Position.{Position}
 use Rattle.mesh.specs.declared.Mesh.{Mesh}
@@ -119,6 +119,15 @@ module _ (m : Mesh) (t : Tables) (w : ℕ) (p : Position) (marks : List ℕ) whe
   unfolding markedRefusal insertRefusal fewerBytes
   marked-passes e = rw e
 
+  -- a look leaves the tables
+  pub tables-stay : lookCall m t w p marks .tables ≡ t
+  unfolding lookCall lookUnless
+  tables-stay = go (split (eqb (lookRefusal m t w p marks) 0))
+    where
+      go : (eqb (lookRefusal m t w p marks) 0 ≡ true) ⊎ (eqb (lookRefusal m t w p marks) 0 ≡ false) → lookCall m t w p marks .tables ≡ t
+      go (inl e) = rw e
+      go (inr e) = rw e
+
   -- an insertion with marks that no test refuses: the plain one is not refused either
   pub marked-accepted : markedRefusal m t w p marks ≡ 0 → insertRefusal m t w p sphere ≡ 0
   unfolding markedRefusal
@@ -130,18 +139,18 @@ module _ (m : Mesh) (t : Tables) (ws : List ℕ) {ws′ : List ℕ} (c : ws′ �
   first-three : meshRefusal m t (length ws) false ≡ k
   first-three = sym (e ∙ ap (λ w. meshRefusal m t w false) (same-work ws c))
 
-  pub look-refused-at : k ≢ 0 → LookLeaves m t ws p marks (LookRefused k) ws′ marks
+  pub look-refused-at : k ≢ 0 → LookLeaves m t ws p marks (LookRefused k) t ws′ marks
   unfolding lookCall lookUnless
   look-refused-at d =
       let q = look-first m t (length ws) p marks first-three d in
-      record { answer = rw (q, ne-eqb k 0 d); marks-left = rw (q, ne-eqb k 0 d); work = c }
+      record { answer = rw (q, ne-eqb k 0 d); tables = rw (q, ne-eqb k 0 d); marks-left = rw (q, ne-eqb k 0 d); work = c }
 
-  pub look-at : k ≡ 0 → {r : Looked} {marks′ : List ℕ} → NodeLooked m t (length ws′) p marks r marks′ → LookLeaves m t ws p marks r ws′ marks′
+  pub look-at : k ≡ 0 → {r : Looked} {t′ : Tables} {marks′ : List ℕ} → NodeLooked m t (length ws′) p marks r t′ marks′ → LookLeaves m t ws p marks r t′ ws′ marks′
   unfolding lookCall
-  look-at z {r} {marks′} L =
-      let N = subst (λ w. NodeLooked m t w p marks r marks′) (same-work ws c) L in
+  look-at z {r} {t′} {marks′} L =
+      let N = subst (λ w. NodeLooked m t w p marks r t′ marks′) (same-work ws c) L in
       let q = look-passes m t (length ws) p marks (first-three ∙ z) in
-      record { answer = rw q (N .answer); marks-left = rw q (N .marks-left); work = c }
+      record { answer = rw q (N .answer); tables = rw q (N .tables); marks-left = rw q (N .marks-left); work = c }
 
   pub marked-refused-at : k ≢ 0 → MarkedLeaves m t ws p marks (Refused k) t ws′
   unfolding markedCall
@@ -160,11 +169,11 @@ module _ (m : Mesh) (t : Tables) (ws : List ℕ) {ws′ : List ℕ} (c : ws′ �
 
 pub looked-refused : {m : Mesh} {t : Tables} {bytes : List ℕ} {d : Node} {st li fa nu : List ℕ} {r : Found} →
     Tested m t bytes d st li fa nu r → answersOf (d .handed) bytes ≡ sphere → (marks : List ℕ) → r .refusal ≢ 0 →
-    NodeLooked m t (d .work) (d .position) marks (LookRefused (r .refusal)) marks
+    NodeLooked m t (d .work) (d .position) marks (LookRefused (r .refusal)) t marks
 unfolding lookUnless nodeLookRefusal
 looked-refused {m} {t} {d = d} {r = r} T own marks z =
     let q : nodeRefusal m t (d .work) (d .position) sphere ≡ r .refusal = sym (T .refusal-is ∙ ap (nodeRefusal m t (d .work) (d .position)) own) in
-    record { answer = rw (q, ne-eqb (r .refusal) 0 z, ne-eqb (r .refusal) 0 z); marks-left = rw (q, ne-eqb (r .refusal) 0 z, ne-eqb (r .refusal) 0 z) }
+    record { answer = rw (q, ne-eqb (r .refusal) 0 z, ne-eqb (r .refusal) 0 z); tables = rw (q, ne-eqb (r .refusal) 0 z, ne-eqb (r .refusal) 0 z); marks-left = rw (q, ne-eqb (r .refusal) 0 z, ne-eqb (r .refusal) 0 z) }
 
 module _ {m : Mesh} {t : Tables} {bytes : List ℕ} {d : Node} {st li fa nu : List ℕ} {r : Found} (S : Starable m t bytes d st li fa nu r)
     (own : answersOf (d .handed) bytes ≡ sphere) (marks : List ℕ) where
@@ -177,18 +186,19 @@ module _ {m : Mesh} {t : Tables} {bytes : List ℕ} {d : Node} {st li fa nu : Li
   count : d .cells ≡ m .cells
   count = S .admitted .node .cells-are
 
-  pub looked-short : length marks < d .cells → NodeLooked m t (d .work) (d .position) marks (LookRefused 10) marks
+  pub looked-short : length marks < d .cells → NodeLooked m t (d .work) (d .position) marks (LookRefused 10) t marks
   unfolding lookUnless nodeLookRefusal
   looked-short h =
       let f = lt-ltb (length marks) (m .cells) (omega (arith, h, count)) in
-      record { answer = rw (accepted, f); marks-left = rw (accepted, f) }
+      record { answer = rw (accepted, f); tables = rw (accepted, f); marks-left = rw (accepted, f) }
 
   pub looked-reported : d .cells ≤ length marks → {g : Report} {marks′ : List ℕ} → g ≡ reportWith m r → marks′ ≡ over (stateMarks (d .cells) st) marks →
-      NodeLooked m t (d .work) (d .position) marks (Reported g) marks′
+      NodeLooked m t (d .work) (d .position) marks (Reported g) t marks′
   unfolding lookUnless nodeLookRefusal
   looked-reported h eg em =
       let f = le-ltb (length marks) (m .cells) (omega (arith, h, count)) in
       record {
         answer = rw (accepted, f) (ap Reported (eg ∙ (report-is S ∙ ap (reportOf m t p) own)));
+        tables = rw (accepted, f);
         marks-left = rw (accepted, f) (em ∙ ap (λ l. over l marks) (marks-are S ∙ ap (cavityMarks m t p) own));
       }

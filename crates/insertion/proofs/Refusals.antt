@@ -1,6 +1,6 @@
 -- Refusals from the tests that give them, and back; answers from refusals.
 use Prim.Native.Nat.{ℕ, _+_, _≤_, _<_}
-use mathlib.Core.Bool.{Bool, true, false, not, cond}
+use mathlib.Core.Bool.{Bool, true, false, not, cond, _||_}
 use mathlib.Core.List.{List}
 use mathlib.Core.Logic.{_≢_}
 use mathlib.Core.Path.{_≡_, refl, sym, ap, _∙_}
@@ -19,6 +19,8 @@ use Rattle.mesh.specs.declared.Mesh.{Mesh}
 use Rattle.mesh.specs.Tables.{Tables, pointCapacity, cellCapacity, cleared, point}
 use Rattle.mesh.specs.Mesh.{IsMesh}
 use Rattle.mesh.proofs.Checked.{same-position-yes}
+use Rattle.mesh.specs.Check.{legalBox, isMesh}
+use Rattle.mesh.specs.Start.{short}
 use Rattle.mesh.specs.Refusal.{meshRefusal}
 use Rattle.locate.specs.Locate.{holds}
 use Rattle.cavity.specs.Answers.{Answers}
@@ -38,6 +40,11 @@ test-to-zero {b} {k} {r} h e = go b e
     go : (b : Bool) → cond b k r ≡ 0 → (b ≡ false) × (r ≡ 0)
     go true q = absurd (omega arith)
     go false q = (refl, q)
+
+-- the numbers of a chain are bounded by each
+chain≤ : (b : Bool) {k r n : ℕ} → k ≤ n → r ≤ n → cond b k r ≤ n
+chain≤ true h l = h
+chain≤ false h l = l
 
 -- one test, and then another where it lets pass: both do
 pub both-pass : (r k : ℕ) → cond (eqb r 0) k r ≡ 0 → (r ≡ 0) × (k ≡ 0)
@@ -141,6 +148,13 @@ module _ (m : Mesh) (t : Tables) (w : ℕ) (p : Position) (a : Answers) where
   pub node-refused : {k : ℕ} → nodeRefusal m t w p a ≡ k → k ≢ 0 → insertNode m t w p a ≡ record { answer = Refused k; tables = t }
   unfolding insertNode
   node-refused e d = unless-refused m t p a e d
+
+  pub up-to-eight : insertRefusal m t w p a ≤ 8
+  unfolding insertRefusal meshRefusal nodeRefusal
+  up-to-eight =
+      chain≤ (eqb firstThree 0)
+      (chain≤ (not inside) (omega arith) (chain≤ someThere (omega arith) (chain≤ pointsFull (omega arith) (chain≤ (not held) (omega arith) (chain≤ cellsFull (omega arith) (omega arith))))))
+      (chain≤ (fewerBytes a (m .cells) || short t w) (omega arith) (chain≤ (not (legalBox (m .x) (m .y) (m .z))) (omega arith) (chain≤ (not (isMesh m t w)) (omega arith) (omega arith))))
 
   -- a call that no test refuses
   pub tests-passed : insertRefusal m t w p a ≡ 0 → (firstThree ≡ 0) × (nodeRefusal m t w p a ≡ 0)

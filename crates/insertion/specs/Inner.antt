@@ -125,8 +125,9 @@ nodeLookRefusal m t w p marks =
     let r = nodeRefusal m t w p sphere in cond (eqb r 0) (cond (ltb (length marks) (m .cells)) 10 0) r
 
 -- what a look after tests 1 to 3 answers and leaves
-pub record NodeLooked (m : Mesh) (t : Tables) (w : ℕ) (p : Position) (marks : List ℕ) (r : Looked) (marks′ : List ℕ) : Type 0 where
+pub record NodeLooked (m : Mesh) (t : Tables) (w : ℕ) (p : Position) (marks : List ℕ) (r : Looked) (t′ : Tables) (marks′ : List ℕ) : Type 0 where
   pub answer : r ≡ lookUnless (nodeLookRefusal m t w p marks) m t p marks .answer
+  pub tables : t′ ≡ lookUnless (nodeLookRefusal m t w p marks) m t p marks .tables
   pub marks-left : marks′ ≡ lookUnless (nodeLookRefusal m t w p marks) m t p marks .marks
 
 -- ---- lists

@@ -26,26 +26,29 @@ unfoldable pub lookRefusal : Mesh → Tables → ℕ → Position → List ℕ �
 lookRefusal m t w p marks =
     let r = insertRefusal m t w p sphere in cond (eqb r 0) (cond (ltb (length marks) (m .cells)) 10 0) r
 
--- what a look answers, and the marks that it leaves; the tables are lent for reading alone
+-- what a look answers, and the tables and marks that it leaves
 pub record LookResult : Type 0 where
   pub answer : Looked
+  pub tables : Tables
   pub marks : List ℕ
 
--- with the refusal r: 'A look answers the report'; a refused one leaves all marks as they were. Marks beyond the cell count stay.
+-- with the refusal r: 'A look answers the report and marks each cell .. and changes nothing else': marks beyond the cell count stay as they
+-- were, and all of them where it is refused
 unfoldable pub lookUnless : ℕ → Mesh → Tables → Position → List ℕ → LookResult
 lookUnless r m t p marks =
     cond (eqb r 0)
-    record { answer = Reported (reportOf m t p sphere); marks = over (cavityMarks m t p sphere) marks }
-    record { answer = Refused r; marks = marks }
+    record { answer = Reported (reportOf m t p sphere); tables = t; marks = over (cavityMarks m t p sphere) marks }
+    record { answer = Refused r; tables = t; marks = marks }
 
 -- the call
 unfoldable pub lookCall : Mesh → Tables → ℕ → Position → List ℕ → LookResult
 lookCall m t w p marks = lookUnless (lookRefusal m t w p marks) m t p marks
 
--- what looking at p answers and leaves in the work area ws and the marks
+-- what looking at p answers and leaves in the tables t, the work area ws and the marks
 pub record LookLeaves (m : Mesh) (t : Tables) (ws : List ℕ) (p : Position) (marks : List ℕ)
-    (r : Looked) (ws′ marks′ : List ℕ) : Type 0 where
+    (r : Looked) (t′ : Tables) (ws′ marks′ : List ℕ) : Type 0 where
   pub answer : r ≡ lookCall m t (length ws) p marks .answer
+  pub tables : t′ ≡ lookCall m t (length ws) p marks .tables
   pub marks-left : marks′ ≡ lookCall m t (length ws) p marks .marks
   pub work : ws′ ≡ cleared ws
 

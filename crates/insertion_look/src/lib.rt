@@ -3,7 +3,7 @@
 ghost use mathlib.Core.Bool.{true};
 ghost use mathlib.Core.Path.{_≡_};
 ghost use Rattle.mesh.specs.Check.{isMesh};
-ghost use Rattle.mesh.specs.Tables.{tablesIn, tablesBefore};
+ghost use Rattle.mesh.specs.Tables.{tablesIn, tablesBefore, tablesAfter};
 ghost use Rattle.insertion.specs.Look.{LookLeaves};
 ghost use Rattle.insertion.specs.Inner.{NodeLooked};
 use cavity::Node;
@@ -27,7 +27,7 @@ fn look_node(
     q: Position,
 ) -> Looked
     requires { ⌜ isMesh mesh (tablesIn points corners neighbours) work ≡ true ⌝ }
-    ensures { λ r. ⌜ NodeLooked mesh (tablesBefore points corners neighbours) work q (now (marks .entry)) r (now (marks .exit)) ⌝ }
+    ensures { λ r. ⌜ NodeLooked mesh (tablesBefore points corners neighbours) work q (now (marks .entry)) r (tablesAfter points corners neighbours) (now (marks .exit)) ⌝ }
 {
     let node = Node {
         position: q,
@@ -74,7 +74,8 @@ pub fn look(
     marks: &mut [u8],
     q: Position,
 ) -> Looked
-    ensures { λ r. ⌜ LookLeaves mesh (tablesBefore points corners neighbours) (now (work .entry)) q (now (marks .entry)) r (now (work .exit)) (now (marks .exit)) ⌝ }
+    ensures { λ r. ⌜ LookLeaves mesh (tablesBefore points corners neighbours) (now (work .entry)) q (now (marks .entry))
+        r (tablesAfter points corners neighbours) (now (work .exit)) (now (marks .exit)) ⌝ }
 {
     clear(work);
     let w = work.len();

@@ -26,15 +26,17 @@ pub fn accepted(mesh: Mesh, found: Found) -> Inserted
     requires { ⌜ (mesh .points ≤ 1024) × (mesh .cells ≤ 4096) × (found .extent .before ≤ 4096) × (found .extent .after ≤ mesh .cells) × (found .made ≤ 16384) ⌝ }
     ensures { λ r. ⌜ r ≡ acceptedWith mesh found ⌝ }
 {
-    let report = report(mesh, found);
+    let extent = found.extent;
+    let after = extent.after as u32;
+    let made = found.made as u32;
     Inserted::Accepted(
         Mesh {
             x: mesh.x,
             y: mesh.y,
             z: mesh.z,
             points: mesh.points + 1,
-            cells: mesh.cells - report.after + report.made,
+            cells: mesh.cells - after + made,
         },
-        report,
+        report(mesh, found),
     )
 }

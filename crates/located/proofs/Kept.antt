@@ -66,6 +66,9 @@ module _ {X Y Z pc cc np n : ℕ} {t : Tables} (M : IsMesh X Y Z pc cc np n t) {
     kept-corners : sortedCorners t′ (keptNumber s c) ≡ sortedCorners t c
     kept-corners = corners-cong t′ t (keptNumber s c) c (kept-corner F c c< k)
 
+    pub kept-stands : Stands t c t′ n′
+    kept-stands = record { cell = keptNumber s c; cell< = kept-new< t n p s c c< k; corners = kept-corners }
+
   -- ---- a new cell over the face f, where a kept cell c holds q
 
   module _ (f : ℕ) (f< : f < 4 * n) (v : visible t p s f ≡ true) where

@@ -6,7 +6,7 @@ use mathlib.Core.Logic.{_⊎_, inl, inr}
 use mathlib.Core.Path.{_≡_, refl, sym, ap, _∙_, subst}
 use native.Mathlib.Decide.{ℕ-discrete}
 use native.Mathlib.Omega.{arith}
-use borrow.Author.Tests.{le-ltb}
+use borrow.Author.Tests.{le-ltb, not-true}
 use Rattle.arith.proofs.Flags.{split}
 use Rattle.geometry.specs.declared.Position.{Position}
 use Rattle.geometry.specs.Volume.{inBox}
@@ -38,7 +38,7 @@ use Rattle.calls.proofs.EachNode.{calls-keep}
 use Rattle.located.specs.Claim.{Stands}
 use Rattle.located.specs.Parked.{LocatedIn, OutsideCavity, StaysLocated}
 use Rattle.located.proofs.Theorem.{mesh-of, holder-first, is-located}
-use Rattle.located.proofs.Kept.{same-corner, old-cell, standing-kept}
+use Rattle.located.proofs.Kept.{kept-stands, same-corner, old-cell, standing-kept}
 
 -- the mesh check says yes, with some work area
 abbrev Checked : Mesh → Tables → Type 0
@@ -113,29 +113,36 @@ module _ (q : Position) where
           let back = corners-cong t′ t (firstHolder t′ (m′ .cells) q) (firstHolder t (m .cells) q) e in
           s′ .corners (s .box ∙ b) record { cell = S .cell; cell< = S .cell<; corners = S .corners ∙ sym back } i h ∙ e i h
 
-  -- ---- a node
+-- ---- an accepted node
 
-  module _ (m : Mesh) (t : Tables) (w : ℕ) (p : Position) (a : Answers) (e : isMesh m t w ≡ true) (z : nodeRefusal m t w p a ≡ 0) where
-    M : MeshFor m t w
-    M = mesh-of m t w e
+module _ (m : Mesh) (t : Tables) (w : ℕ) (p : Position) (a : Answers) (e : isMesh m t w ≡ true) (z : nodeRefusal m t w p a ≡ 0) where
+  M : MeshFor m t w
+  M = mesh-of m t w e
 
-    fits : Fits (pointCapacity t) (cellCapacity t w) (m .points) (m .cells) t p (lastCavity m t p a)
-    unfolding cellsMade
-    fits = let N = node-fits m t w p a z in record { room = room-of t w; next = omega (arith, M .points≤, N .next); cells = N .cells }
+  fits : Fits (pointCapacity t) (cellCapacity t w) (m .points) (m .cells) t p (lastCavity m t p a)
+  unfolding cellsMade
+  fits = let N = node-fits m t w p a z in record { room = room-of t w; next = omega (arith, M .points≤, N .next); cells = N .cells }
 
-    M′ : IsMesh (m .x) (m .y) (m .z) (pointCapacity t) (cellCapacity t w) (m .points + 1) (newCount t (m .cells) p (lastCavity m t p a)) (star t (m .cells) p (m .points) (lastCavity m t p a))
-    M′ = inserted m t w w p a M (node-fits m t w p a z) (omega arith) .mesh
+  M′ : IsMesh (m .x) (m .y) (m .z) (pointCapacity t) (cellCapacity t w) (m .points + 1) (newCount t (m .cells) p (lastCavity m t p a)) (star t (m .cells) p (m .points) (lastCavity m t p a))
+  M′ = inserted m t w w p a M (node-fits m t w p a z) (omega arith) .mesh
 
-    holder< : inBox (m .x) (m .y) (m .z) q ≡ true → firstHolder t (m .cells) q < m .cells
-    holder< b = holder-first M (room-of t w) q (box-in b) .cell<
+  -- just the cells outside the corrected cavity stand after it
+  pub outside-stands : (c : ℕ) → c < m .cells → OutsideCavity m t p a c → Stands t c (insertedTables m t p a) (insertedMesh m t p a .cells)
+  unfolding insertedMesh insertedTables
+  outside-stands c c< out = kept-stands M fits M′ c c< (ap not out)
 
+  pub stands-outside : (c : ℕ) → c < m .cells → Stands t c (insertedTables m t p a) (insertedMesh m t p a .cells) → OutsideCavity m t p a c
+  unfolding insertedMesh insertedTables
+  stands-outside c c< S = not-true (inSet (lastCavity m t p a) c) (standing-kept M fits M′ c c< S)
+
+  module _ (q : Position) where
     node-stays : Stays q m t (insertedMesh m t p a) (insertedTables m t p a)
     unfolding insertedMesh insertedTables
     node-stays = record {
       box = refl;
       points≤ = omega arith;
       old-cells = λ d d< old. let r = old-cell M fits M′ d d< old in record { cell = r .0; cell< = r .1; corners = r .2 .1 };
-      corners = λ b S. same-corner M fits M′ q (box-in b) (standing-kept M fits M′ (firstHolder t (m .cells) q) (holder< b) S);
+      corners = λ b S. same-corner M fits M′ q (box-in b) (standing-kept M fits M′ (firstHolder t (m .cells) q) (holder-first M (room-of t w) q (box-in b) .cell<) S);
     }
 
     -- located outside the corrected cavity
@@ -156,7 +163,7 @@ pub parked-node : (m : Mesh) (t : Tables) (w : ℕ) (p : Position) (a : Answers)
     LocatedIn t c m′ (insertNode m t w p a .tables) w q
 parked-node m t w p a {m′} e f q v c l out =
     let n = accepted-node m t w p a f in
-    subst (λ x. LocatedIn t c m′ x w q) (sym (n .1 .1)) (subst (λ x. LocatedIn t c x (insertedTables m t p a) w q) (sym (n .1 .0)) (node-located q m t w p a e (n .0) v c l out))
+    subst (λ x. LocatedIn t c m′ x w q) (sym (n .1 .1)) (subst (λ x. LocatedIn t c x (insertedTables m t p a) w q) (sym (n .1 .0)) (node-located m t w p a e (n .0) q v c l out))
 
 -- over an accepted insertion by the sphere test or by answers handed in
 pub parked-once : (m : Mesh) (t : Tables) (w : ℕ) (p : Position) (a : Answers) {m′ : Mesh} {r : Report} →
@@ -171,7 +178,7 @@ parked-once m t w p a {m′} f q v c l out =
 all-calls : (q : Position) (b : Build) (cs : List Call) → Checked (b .mesh) (b .tables) → Stays q (b .mesh) (b .tables) (meshAfter b cs .mesh) (meshAfter b cs .tables)
 all-calls q b cs C =
     calls-keep (λ b′ ps. Stays q (b .mesh) (b .tables) (b′ .mesh) (b′ .tables))
-    (λ a m t w p ps e z s. then q C s (node-stays q m t w p a e z)) b cs [] (same q (b .mesh) (b .tables))
+    (λ a m t w p ps e z s. then q C s (node-stays m t w p a e z q)) b cs [] (same q (b .mesh) (b .tables))
 
 -- over every list of calls: while its cell stands, it is located in it
 pub parked : (b : Build) (cs : List Call) (q : Position) → StaysLocated b cs q

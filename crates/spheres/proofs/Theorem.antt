@@ -74,7 +74,7 @@ own-call b (by-sphere w p) o G = unfold outcome in insert-keeps (λ b ps. Clear 
 own-call b (by-answers w bytes p) o G = none-accepted b w bytes p G o
 own-call b (by-marks w marks p) o G = unfold outcome in marked-keeps (λ b ps. Clear b) by-own-test (b .mesh) (b .tables) w marks p [] G
 own-call b (by-list w ns) o G = unfold outcome in list-keeps (λ b ps. Clear b) by-own-test (b .mesh) (b .tables) w ns [] G
-own-call b (look w marks p) o G = look-keeps (λ b ps. Clear b) b w marks p [] G
+own-call b (look w marks p) o G = unfold outcome in look-keeps (λ b ps. Clear b) (b .mesh) (b .tables) w marks p [] G
 
 own-calls : (b : Build) (cs : List Call) → OwnCalls b cs → Clear b → Clear (meshAfter b cs)
 unfolding OwnCalls meshAfter

@@ -36,19 +36,18 @@ slice-aggregate-find-5 : tie.Need-slice-aggregate-find-5
 slice-aggregate-find-5 c = search needs
 
 find-requires : tie.Need-find-requires
-find-requires c κs =
-    (
-      record { mesh = c .before .before .before .before .before .before .before .before .before .before .before .pre; points-are = refl; cells-are = refl; answered = λ h. absurd (true≢false (sym h)) },
-      record { states = refl; entries = refl; zero = zeros-at 4096 },
-      record { long = refl; zero = zeros-at 4096 },
-      record { long = length-replicate 8192 none; last = getD-replicate 8192 8191 none 0 (omega arith) },
-    )
+find-requires c κs = (
+  record { mesh = c .before .before .before .before .before .before .before .before .before .before .before .pre; points-are = refl; cells-are = refl; answered = λ h. absurd (true≢false (sym h)) },
+  record { states = refl; entries = refl; zero = zeros-at 4096 },
+  record { long = refl; zero = zeros-at 4096 },
+  record { long = length-replicate 8192 none; last = getD-replicate 8192 8191 none 0 (omega arith) },
+)
 
 returns : tie.Need-returns
 returns c = looked-refused (c .before .before .before .before .before .find .ensures) refl _ (c .if1 .taken)
 
 returns-2 : tie.Need-returns-2
-returns-2 c = let e = c .before .before in looked-short (found-at e .find .ensures .starable (e .if1 .left)) refl _ (c .if2 .taken)
+returns-2 c = let e = c .before .before in looked-short (found-at e .find .ensures .starable (e .if1 .left)) refl _ (omega (arith, c .if2 .taken))
 
 slice-aggregate-write-marks : tie.Need-slice-aggregate-write-marks
 slice-aggregate-write-marks c = sym (found-at (c .before .before .before) .find .kept .1 .1 .1 .1 .1 .1 .0)
@@ -56,7 +55,7 @@ slice-aggregate-write-marks c = sym (found-at (c .before .before .before) .find 
 write-marks-requires : tie.Need-write-marks-requires
 write-marks-requires c κs =
     let e = c .before .before .before .before in
-    (states-long (found-at e .find .ensures .starable (e .if1 .left)), c .before .before .if2 .left)
+    (states-long (found-at e .find .ensures .starable (e .if1 .left)), omega (arith, c .before .before .if2 .left))
 
 report-requires : tie.Need-report-requires
 report-requires c κs =
@@ -69,7 +68,7 @@ same-length c = search needs
 returns-3 : tie.Need-returns-3
 returns-3 c =
     let e = c .before .before .before .before .before .before .before .before in
-    looked-reported (found-at e .find .ensures .starable (e .if1 .left)) refl _ (c .before .before .before .before .before .before .if2 .left) (c .report .ensures) (c .before .before .before .write-marks .ensures)
+    looked-reported (found-at e .find .ensures .starable (e .if1 .left)) refl _ (omega (arith, c .before .before .before .before .before .before .if2 .left)) (c .report .ensures) (c .before .before .before .write-marks .ensures)
 
 pub look-node-spec : {M : Type 1} → statement M
 look-node-spec =

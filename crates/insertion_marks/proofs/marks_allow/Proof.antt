@@ -1,6 +1,6 @@
 -- After c turns the first c bytes are the marks of the first c cells.
 use Prim.Native.Nat.{_-_, _≤_}
-use mathlib.Core.Path.{_≡_, refl, sym, _∙_}
+use mathlib.Core.Path.{_≡_, refl}
 use native.Mathlib.Omega.{arith}
 use borrow.Author.Needs.{needs}
 use borrow.Author.Tests.{not-true, not-false}
@@ -19,7 +19,7 @@ returns : tie.Need-returns Inv-loop μ-loop
 returns c = no-marks-asked _ _ _ (not-true _ (c .if1 .taken))
 
 returns-2 : tie.Need-returns-2 Inv-loop μ-loop
-returns-2 c = too-few-marks _ _ _ (not-false _ (c .before .if1 .left)) (c .if2 .taken)
+returns-2 c = too-few-marks _ _ _ (not-false _ (c .before .if1 .left)) (omega (arith, c .if2 .taken))
 
 loop-holds : tie.Need-loop-holds Inv-loop μ-loop
 loop-holds c = (omega arith, refl)
@@ -37,7 +37,7 @@ returns-3 : tie.Need-returns-3 Inv-loop μ-loop
 returns-3 c =
     let l = c .before .before .before .before .before .loop in
     let first = c .before .before .before .before .before .before .before in
-    mark-differs _ _ _ (not-false _ (first .if1 .left)) (l .c) (omega arith) (omega arith) (l .inv .1) (λ e. c .if3 .taken (e ∙ sym (c .before .mark-of .ensures)))
+    mark-differs _ _ _ (not-false _ (first .if1 .left)) (l .c) (omega arith) (omega arith) (l .inv .1) (λ e. omega (arith, e, c .if3 .taken, c .before .mark-of .ensures))
 
 add-c : tie.Need-add-c Inv-loop μ-loop
 add-c c = omega arith
@@ -48,7 +48,7 @@ loop-less c = omega arith
 loop-again : tie.Need-loop-again Inv-loop μ-loop
 loop-again c =
     let l = c .before .before .before .before .before .loop in
-    (omega arith, matching-more _ _ _ (l .c) (omega arith) (omega arith) (l .inv .1) (c .if3 .left ∙ c .before .mark-of .ensures))
+    (omega arith, matching-more _ _ _ (l .c) (omega arith) (omega arith) (l .inv .1) (omega (arith, c .if3 .left, c .before .mark-of .ensures)))
 
 returns-4 : tie.Need-returns-4 Inv-loop μ-loop
 returns-4 c =

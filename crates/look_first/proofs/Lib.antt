@@ -1,0 +1,2 @@
+-- Looking first, then inserting.
+pub mod Theorem

@@ -1,0 +1,266 @@
+-- Document 02 §6: a look, then the insertion with its marks or with others.
+use Prim.Native.Nat.{ℕ, zero, suc, _≤_, _<_}
+use mathlib.Core.Bool.{Bool, true, false, not, _&&_, cond, true≢false}
+use mathlib.Core.List.{List, [], _∷_, _++_}
+use mathlib.Core.Logic.{_≢_, _⊎_, inl, inr}
+use mathlib.Core.Path.{_≡_, refl, sym, ap, ap₂, _∙_, subst}
+use native.Mathlib.Decide.{ℕ-discrete}
+use native.Mathlib.Omega.{arith}
+use borrow.Author.Tests.{eq-eqb, ne-eqb, eqb-true, lt-ltb, ltb-true, ltb-false}
+use lib.Dec.{ltb, eqb}
+use lib.ListN.{length, getD, take}
+use lib.Seq.{take-at, getD-take}
+use Rattle.arith.specs.Table.{tabulate}
+use Rattle.arith.proofs.Flags.{split, and-left, and-right, and-intro, fails}
+use Rattle.arith.proofs.Tables.{tabulate-length, tabulate-at}
+use Rattle.geometry.specs.declared.Position.{Position}
+use Rattle.mesh.specs.declared.Mesh.{Mesh}
+use Rattle.mesh.specs.Tables.{Tables}
+use Rattle.mesh.specs.Check.{isMesh}
+use Rattle.mesh.specs.Start.{over}
+use Rattle.mesh.specs.Refusal.{meshRefusal}
+use Rattle.mesh.proofs.Verdict.{passed}
+use Rattle.cavity.specs.Answers.{sphere}
+use Rattle.cavity.specs.Cavity.{inSet}
+use Rattle.insertion.specs.declared.Report.{Report}
+use Rattle.insertion.specs.declared.Inserted.{Inserted}
+use Rattle.insertion.specs.declared.Inserted.the-variants.{Accepted, Refused}
+use Rattle.insertion.specs.declared.Looked.the-variants.{Reported, Refused as LookRefused}
+use Rattle.insertion.specs.Insertion.{lastCavity, nodeRefusal, fewerBytes, insertRefusal, reportOf, insertedMesh, insertedTables, insertUnless, insertCall, InsertLeaves}
+use Rattle.insertion.specs.Look.{cavityMarks, lookRefusal, lookUnless, lookCall, LookLeaves, beginsWith, markedRefusal, markedCall, MarkedLeaves}
+use Rattle.insertion.proofs.Refusals.{both-pass, unless-accepted, unless-refused, up-to-eight, tests-passed}
+use Rattle.insertion.proofs.Looking.{tables-stay}
+use Rattle.located.specs.Claim.{Stands}
+use Rattle.located.specs.Parked.{OutsideCavity}
+use Rattle.located.proofs.Parked.{outside-stands, stands-outside}
+use Rattle.look_first.specs.Claim.{counted, AfterLook, RefusedAlike}
+
+-- ---- bytes
+
+-- the first bytes are all of expected, or they are not
+begins-taken : (expected bytes : List ℕ) → take (length expected) bytes ≡ expected → beginsWith expected bytes ≡ true
+unfolding beginsWith
+begins-taken [] bytes e = refl
+begins-taken (x ∷ expected) [] e = absurd (omega (arith, ap length e))
+begins-taken (x ∷ expected) (b ∷ bytes) e =
+    let h : b ≡ x = cc in
+    let t : take (length expected) bytes ≡ expected = cc in
+    and-intro (eq-eqb b x h) (begins-taken expected bytes t)
+
+taken-begins : (expected bytes : List ℕ) → beginsWith expected bytes ≡ true → take (length expected) bytes ≡ expected
+unfolding beginsWith
+taken-begins [] bytes e = refl
+taken-begins (x ∷ expected) [] e = absurd (true≢false (sym e))
+taken-begins (x ∷ expected) (b ∷ bytes) e =
+    ap₂ (λ (h : ℕ) t. h ∷ t) (eqb-true b x (and-left (eqb b x) (beginsWith expected bytes) e)) (taken-begins expected bytes (and-right (eqb b x) (beginsWith expected bytes) e))
+
+-- ---- refusals
+
+-- a test that answers nothing leaves the one before
+then-none : (r : ℕ) → cond (eqb r 0) 0 r ≡ r
+then-none r = go (ℕ-discrete r 0)
+  where
+    go : Dec (r ≡ 0) → cond (eqb r 0) 0 r ≡ r
+    go (yes z) = rw z
+    go (no d) = rw (ne-eqb r 0 d)
+
+module _ (m : Mesh) (t : Tables) (w : ℕ) (p : Position) where
+  abbrev R : ℕ
+  R = insertRefusal m t w p sphere
+
+  insert-accepted : R ≡ 0 → insertCall m t w p sphere ≡ record { answer = Accepted (insertedMesh m t p sphere) (reportOf m t p sphere); tables = insertedTables m t p sphere }
+  unfolding insertCall
+  insert-accepted z = unless-accepted m t p sphere z
+
+  never-refused : R ≡ 0 → (e : ℕ) → insertCall m t w p sphere .answer ≢ Refused e
+  never-refused z e q =
+      let f : Accepted (insertedMesh m t p sphere) (reportOf m t p sphere) ≡ Refused e = sym (ap (λ l. l .answer) (insert-accepted z)) ∙ q in
+      let o : _≡_ {A = ℕ} 0 1 = cc in omega arith
+
+  insert-refused : R ≢ 0 → insertCall m t w p sphere ≡ record { answer = Refused R; tables = t }
+  unfolding insertCall
+  insert-refused d = unless-refused m t p sphere refl d
+
+  -- the number of a refusal
+  refused-number : (e : ℕ) → insertCall m t w p sphere .answer ≡ Refused e → (R ≢ 0) × (R ≡ e)
+  refused-number e q = go (ℕ-discrete R 0)
+    where
+      go : Dec (R ≡ 0) → (R ≢ 0) × (R ≡ e)
+      go (yes z) = absurd (never-refused z e q)
+      go (no d) = let f : Refused R ≡ Refused e = sym (ap (λ l. l .answer) (insert-refused d)) ∙ q in (d, cc)
+
+  module _ (marks : List ℕ) where
+    abbrev L : ℕ
+    L = lookRefusal m t w p marks
+
+    look-accepted : L ≡ 0 → lookCall m t w p marks ≡ record { answer = Reported (reportOf m t p sphere); tables = t; marks = over (cavityMarks m t p sphere) marks }
+    unfolding lookCall lookUnless
+    look-accepted z = rw z
+
+    look-refused : L ≢ 0 → lookCall m t w p marks ≡ record { answer = LookRefused L; tables = t; marks = marks }
+    unfolding lookCall lookUnless
+    look-refused d = rw (ne-eqb L 0 d)
+
+    reported : (r : Report) → lookCall m t w p marks .answer ≡ Reported r → (L ≡ 0) × (reportOf m t p sphere ≡ r)
+    reported r q = go (ℕ-discrete L 0)
+      where
+        go : Dec (L ≡ 0) → (L ≡ 0) × (reportOf m t p sphere ≡ r)
+        go (yes z) = let f : Reported (reportOf m t p sphere) ≡ Reported r = sym (ap (λ l. l .answer) (look-accepted z)) ∙ q in (z, cc)
+        go (no d) =
+            let f : LookRefused L ≡ Reported r = sym (ap (λ l. l .answer) (look-refused d)) ∙ q in
+            let o : _≡_ {A = ℕ} 0 1 = cc in absurd (omega arith)
+
+    look-number : (e : ℕ) → lookCall m t w p marks .answer ≡ LookRefused e → (L ≢ 0) × (L ≡ e)
+    look-number e q = go (ℕ-discrete L 0)
+      where
+        go : Dec (L ≡ 0) → (L ≢ 0) × (L ≡ e)
+        go (yes z) =
+            let f : Reported (reportOf m t p sphere) ≡ LookRefused e = sym (ap (λ l. l .answer) (look-accepted z)) ∙ q in
+            let o : _≡_ {A = ℕ} 0 1 = cc in absurd (omega arith)
+        go (no d) = let f : LookRefused L ≡ LookRefused e = sym (ap (λ l. l .answer) (look-refused d)) ∙ q in (d, cc)
+
+    -- the look's number, by the insertion's
+    where-refused : R ≢ 0 → L ≡ R
+    unfolding lookRefusal
+    where-refused d = rw (ne-eqb R 0 d)
+
+    where-accepted : R ≡ 0 → L ≡ cond (ltb (length marks) (m .cells)) 10 0
+    unfolding lookRefusal
+    where-accepted z = rw z
+
+    -- a look that is accepted: so is the insertion, and the bytes are enough
+    both-accepted : L ≡ 0 → (R ≡ 0) × (cond {A = ℕ} (ltb (length marks) (m .cells)) 10 0 ≡ 0)
+    unfolding lookRefusal
+    both-accepted z = both-pass R (cond (ltb (length marks) (m .cells)) 10 0) z
+
+    refused-alike : RefusedAlike m t w p marks
+    unfolding markedCall markedRefusal insertCall
+    refused-alike = record {
+      look-too = λ e q. let h = refused-number e q in
+          let z = where-refused (h .0) in
+          ap (λ l. l .answer) (look-refused (subst (λ k. k ≢ 0) (sym z) (h .0))) ∙ ap LookRefused (z ∙ h .1);
+      insertion-too = insertion-too;
+      ten = λ q. ten (look-number 10 q .1);
+      too-few = λ h r q. few h (reported r q .0);
+      marks-stay = λ e q. ap (λ l. l .marks) (look-refused (look-number e q .0));
+      marked-too = λ e q. let h = refused-number e q in ap (λ r. insertUnless r m t p sphere) (rw (ne-eqb R 0 (h .0)));
+    }
+      where
+        few : length marks < m .cells → L ≡ 0 → ⊥
+        few h z = omega (arith, rw (lt-ltb (length marks) (m .cells) h) at (both-accepted z .1))
+
+        by-marks : (b : Bool) → b ≡ ltb (length marks) (m .cells) → (e : ℕ) → cond {A = ℕ} b 10 0 ≢ 0 → cond b 10 0 ≡ e → (e ≡ 10) × (length marks < m .cells)
+        by-marks true f e d q = (sym q, ltb-true (length marks) (m .cells) (sym f))
+        by-marks false f e d q = absurd (d refl)
+
+        insertion-too : (e : ℕ) → lookCall m t w p marks .answer ≡ LookRefused e → e ≢ 10 → insertCall m t w p sphere .answer ≡ Refused e
+        insertion-too e q d = go (ℕ-discrete R 0) (look-number e q)
+          where
+            go : Dec (R ≡ 0) → (L ≢ 0) × (L ≡ e) → insertCall m t w p sphere .answer ≡ Refused e
+            go (no r) h = ap (λ l. l .answer) (insert-refused r) ∙ ap Refused (sym (where-refused r) ∙ h .1)
+            go (yes z) h =
+                let k = where-accepted z in
+                absurd (d (by-marks (ltb (length marks) (m .cells)) refl e (subst (λ x. x ≢ 0) k (h .0)) (sym k ∙ h .1) .0))
+
+        ten : L ≡ 10 → (length marks < m .cells) × ((e : ℕ) → insertCall m t w p sphere .answer ≢ Refused e)
+        ten q = go (ℕ-discrete R 0)
+          where
+            go : Dec (R ≡ 0) → (length marks < m .cells) × ((e : ℕ) → insertCall m t w p sphere .answer ≢ Refused e)
+            go (no r) = absurd (omega (arith, up-to-eight m t w p sphere, where-refused r, q))
+            go (yes z) =
+                let k = where-accepted z in
+                (by-marks (ltb (length marks) (m .cells)) refl 10 (λ f. omega (arith, f, k, q)) (sym k ∙ q) .1, never-refused z)
+
+-- ---- a look that answers a report
+
+marks-long : (m : Mesh) (t : Tables) (p : Position) → length (cavityMarks m t p sphere) ≡ m .cells
+unfolding cavityMarks
+marks-long m t p = tabulate-length (m .cells) _
+
+module _ (m : Mesh) (t : Tables) (w : ℕ) (p : Position) (seen : List ℕ) where
+  abbrev expected : List ℕ
+  expected = cavityMarks m t p sphere
+
+  -- marks that are those of a look, and others
+  same-marks : (marks : List ℕ) → counted m marks ≡ expected → (v : ℕ) → markedCall m t v p marks ≡ insertCall m t v p sphere
+  unfolding markedCall markedRefusal insertCall
+  same-marks marks e v =
+      let b = begins-taken expected marks (ap (λ n. take n marks) (marks-long m t p) ∙ e) in
+      ap (λ r. insertUnless r m t p sphere) (rw b (then-none (insertRefusal m t v p sphere)))
+
+  other-marks : insertRefusal m t w p sphere ≡ 0 → (marks : List ℕ) → counted m marks ≢ expected → markedCall m t w p marks ≡ record { answer = Refused 14; tables = t }
+  unfolding markedCall markedRefusal
+  other-marks z marks d =
+      let b = fails (beginsWith expected marks) (λ b. d (sym (ap (λ n. take n marks) (marks-long m t p)) ∙ taken-begins expected marks b)) in
+      unless-refused m t p sphere (rw (z, b)) (λ o. omega arith)
+
+  module _ (z : insertRefusal m t w p sphere ≡ 0) (e : counted m seen ≡ expected) where
+    mark-is : (c : ℕ) → c < m .cells → getD seen c 0 ≡ cond (inSet (lastCavity m t p sphere) c) 1 0
+    unfolding cavityMarks
+    mark-is c h = sym (getD-take (m .cells) seen c 0 h) ∙ (ap (λ l. getD l c 0) e ∙ tabulate-at (m .cells) _ c 0 h)
+
+    -- 1 or 0, and which of them says whether the cell is replaced
+    marked : (c : ℕ) → c < m .cells → (getD seen c 0 ≡ 1) ⊎ (getD seen c 0 ≡ 0)
+    marked c h = go (inSet (lastCavity m t p sphere) c) (mark-is c h)
+      where
+        go : (b : Bool) → getD seen c 0 ≡ cond b 1 0 → (getD seen c 0 ≡ 1) ⊎ (getD seen c 0 ≡ 0)
+        go true q = inl q
+        go false q = inr q
+
+    outside-where : (c : ℕ) → c < m .cells → getD seen c 0 ≡ 0 → OutsideCavity m t p sphere c
+    outside-where c h o = fails (inSet (lastCavity m t p sphere) c) (λ b. omega (arith, o, rw b at (mark-is c h)))
+
+    inside-where : (c : ℕ) → c < m .cells → getD seen c 0 ≡ 1 → OutsideCavity m t p sphere c → ⊥
+    inside-where c h o b = omega (arith, o, rw b at (mark-is c h))
+
+    passes : (meshRefusal m t w (fewerBytes sphere (m .cells)) ≡ 0) × (nodeRefusal m t w p sphere ≡ 0)
+    passes = tests-passed m t w p sphere z
+
+    a-mesh : isMesh m t w ≡ true
+    a-mesh = passed m t w (fewerBytes sphere (m .cells)) (passes .0)
+
+    tables-are : insertCall m t w p sphere .tables ≡ insertedTables m t p sphere
+    tables-are = ap (λ l. l .tables) (insert-accepted m t w p z)
+
+    after-look : AfterLook m t w p (reportOf m t p sphere) seen
+    after-look = record {
+      mesh = insertedMesh m t p sphere;
+      goes-in = ap (λ l. l .answer) (same-marks seen e w ∙ insert-accepted m t w p z);
+      same-marks = λ marks q. same-marks marks (q ∙ e);
+      other-marks = λ marks d. other-marks z marks (λ q. d (q ∙ sym e));
+      replaced = λ c h o S.
+          inside-where c h o
+          (stands-outside m t w p sphere a-mesh (passes .1) c h (subst (λ x. Stands t c x (insertedMesh m t p sphere .cells)) tables-are S));
+      kept = λ c h o.
+          subst (λ x. Stands t c x (insertedMesh m t p sphere .cells)) (sym tables-are)
+          (outside-stands m t w p sphere a-mesh (passes .1) c h (outside-where c h o));
+      marked = marked;
+    }
+
+-- DOCUMENT 02 §6: for all records, tables, work areas, nodes and marks. Where a look answers a report:
+pub look-first : (m : Mesh) (t : Tables) (w : ℕ) (p : Position) (marks : List ℕ) (r : Report) → lookCall m t w p marks .answer ≡ Reported r →
+    AfterLook m t w p r (lookCall m t w p marks .marks)
+look-first m t w p marks r q =
+    let h = reported m t w p marks r q in
+    let z = both-accepted m t w p marks (h .0) .0 in
+    let e : counted m (lookCall m t w p marks .marks) ≡ cavityMarks m t p sphere =
+    ap (λ l. take (m .cells) (l .marks)) (look-accepted m t w p marks (h .0)) ∙ take-at (cavityMarks m t p sphere) _ (m .cells) (marks-long m t p) in
+    subst (λ r. AfterLook m t w p r (lookCall m t w p marks .marks)) (h .1) (after-look m t w p (lookCall m t w p marks .marks) z e)
+
+-- and where it is refused
+pub refused-as-insertion : (m : Mesh) (t : Tables) (w : ℕ) (p : Position) (marks : List ℕ) → RefusedAlike m t w p marks
+refused-as-insertion m t w p marks = refused-alike m t w p marks
+
+-- the same in the words of the calls' contracts: a look that answers a report, then an insertion with the tables and marks that it left, and
+-- as much work area. It leaves what the plain insertion leaves in the tables that the look was lent.
+pub look-then-insert : (m : Mesh) (t t₁ t₂ : Tables) (ws ws′ vs vs′ : List ℕ) (p : Position) (marks marks′ : List ℕ) (r : Report) (g : Inserted) →
+    LookLeaves m t ws p marks (Reported r) t₁ ws′ marks′ → MarkedLeaves m t₁ vs p marks′ g t₂ vs′ → length vs ≡ length ws →
+    InsertLeaves m t vs p sphere g t₂ vs′ × ((m′ : Mesh) × (g ≡ Accepted m′ r))
+look-then-insert m t t₁ t₂ ws ws′ vs vs′ p marks marks′ r g L N₁ e =
+    let N = subst (λ x. MarkedLeaves m x vs p marks′ g t₂ vs′) (L .tables ∙ tables-stay m t (length ws) p marks) N₁ in
+    let A = look-first m t (length ws) p marks r (sym (L .answer)) in
+    let q : marks′ ≡ lookCall m t (length ws) p marks .marks = L .marks-left in
+    let s = A .same-marks marks′ (ap (counted m) q) (length vs) in (
+      record { answer = N .answer ∙ ap (λ l. l .answer) s; tables = N .tables ∙ ap (λ l. l .tables) s; work = N .work },
+      (A .mesh, N .answer ∙ (ap₂ (λ w l. markedCall m t w p l .answer) e q ∙ A .goes-in)),
+    )
