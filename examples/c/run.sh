@@ -32,8 +32,10 @@ prints() {
 # both STANDARD COMPILER..
 both() {
     build bore "$@"
+    build look "$@"
     build merge "$@"
     prints bore "$1"
+    prints look "$1"
     prints merge "$1" examples/listing/noted.nodes examples/listing/taken.nodes "$out/merged.nodes"
 }
 
@@ -41,4 +43,4 @@ both c99 "${CC:-cc}"
 both c11 "${CC:-cc}"
 both c++11 "${CXX:-c++}" -x c++
 both c++17 "${CXX:-c++}" -x c++
-echo "run.sh: bore and merge as C99, C11, C++11 and C++17 printed what bore.txt and merge.txt have"
+echo "run.sh: bore, look and merge as C99, C11, C++11 and C++17 printed what bore.txt, look.txt and merge.txt have"

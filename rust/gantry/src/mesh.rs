@@ -82,7 +82,7 @@ impl Look {
     /// let mut mesh = Mesh::start(4, 4, 4)?;
     /// mesh.insert([1, 2, 3])?;
     /// let look = mesh.look([3, 1, 1])?;
-    /// assert!(look.cells().eq([0, 1, 2, 3, 4, 5, 6, 7, 8]));
+    /// assert!(look.cells().eq([0, 1, 3, 9, 10, 11]));
     /// # Ok::<(), gantry::Refusal>(())
     /// ```
     pub fn cells(&self) -> impl Iterator<Item = usize> + '_ {
@@ -177,13 +177,15 @@ impl Mesh {
     fn take(&mut self, inserted: raw::Inserted) -> Result<Report, Refusal> {
         self.record = inserted.mesh;
         accepted(inserted.refusal)?;
-        Ok(Report {
-            point: inserted.point as usize,
-            before: inserted.before as usize,
-            after: inserted.after as usize,
-            made: inserted.made as usize,
-            least: inserted.least,
-        })
+        let raw::Inserted {
+            point,
+            before,
+            after,
+            made,
+            least,
+            ..
+        } = inserted;
+        Ok(report([point, before, after, made], least))
     }
 
     /// Inserts one node by the sphere test. Refused with [`Refusal::Outside`], [`Refusal::Taken`],
@@ -244,16 +246,17 @@ impl Mesh {
         let (record, mut tables) = self.lend();
         let looked = raw::look(record, &mut tables, &mut marks, p);
         accepted(looked.refusal)?;
-        let report = Report {
-            point: looked.point as usize,
-            before: looked.before as usize,
-            after: looked.after as usize,
-            made: looked.made as usize,
-            least: looked.least,
-        };
+        let raw::Looked {
+            point,
+            before,
+            after,
+            made,
+            least,
+            ..
+        } = looked;
         Ok(Look {
             position: p,
-            report,
+            report: report([point, before, after, made], least),
             marks,
         })
     }
@@ -443,6 +446,17 @@ impl Mesh {
     pub fn corner_positions(&self, number: usize) -> Option<[Position; 4]> {
         let cell = self.cell(number)?;
         Some(cell.corners.map(|point| self.points()[point]))
+    }
+}
+
+fn report(numbers: [u32; 4], least: f64) -> Report {
+    let [point, before, after, made] = numbers.map(|number| number as usize);
+    Report {
+        point,
+        before,
+        after,
+        made,
+        least,
     }
 }
 

@@ -101,6 +101,105 @@ fn refusals_leave_the_mesh() {
     assert_eq!(format!("{mesh:?}"), format!("{before:?}"));
 }
 
+/// The four corners of each cell, sorted.
+fn corner_sets(mesh: &Mesh) -> Vec<[usize; 4]> {
+    let sorted = |cell: gantry::Cell| {
+        let mut corners = cell.corners;
+        corners.sort();
+        corners
+    };
+    mesh.cells().map(sorted).collect()
+}
+
+#[test]
+fn what_a_look_says_comes_true() {
+    let nodes = lattice(4, 5);
+    let mut mesh = Mesh::start(15, 15, 15).unwrap();
+    mesh.insert_list(&nodes[..20]).unwrap();
+    for &p in &nodes[20..] {
+        let before = mesh.clone();
+        let look = mesh.look(p).unwrap();
+        assert_eq!(mesh, before);
+        assert_eq!(look.cells().count(), look.report().after);
+        let mut plainly = mesh.clone();
+        assert_eq!(plainly.insert(p), Ok(look.report()));
+        assert_eq!(mesh.insert_looked(&look), Ok(look.report()));
+        assert_eq!(mesh, plainly);
+        let after = corner_sets(&mesh);
+        for (number, corners) in corner_sets(&before).iter().enumerate() {
+            let is_marked = look.cells().any(|cell| cell == number);
+            assert_eq!(after.contains(corners), !is_marked);
+        }
+    }
+}
+
+#[test]
+fn looks_that_are_refused() {
+    let mut mesh = Mesh::start_with_room(
+        4,
+        4,
+        4,
+        Room {
+            points: 9,
+            cells: 30,
+        },
+    )
+    .unwrap();
+    let look = mesh.look([2, 2, 2]).unwrap();
+    assert_eq!(mesh.look([4, 0, 4]), Err(Refusal::Taken));
+    assert_eq!(mesh.look([4, 0, 5]), Err(Refusal::Outside));
+    mesh.insert([1, 2, 3]).unwrap();
+    assert_eq!(mesh.look([2, 2, 2]), Err(Refusal::PointsFull));
+    // Before its marks are looked at.
+    assert_eq!(mesh.insert_looked(&look), Err(Refusal::PointsFull));
+    let mut other = Mesh::start(4, 4, 4).unwrap();
+    other.insert([1, 2, 3]).unwrap();
+    let before = other.clone();
+    assert_eq!(other.insert_looked(&look), Err(Refusal::OtherMarks));
+    assert_eq!(other, before);
+    let mut tight = Mesh::start_with_room(
+        4,
+        4,
+        4,
+        Room {
+            points: 9,
+            cells: 17,
+        },
+    )
+    .unwrap();
+    assert_eq!(tight.look([1, 2, 3]), Err(Refusal::CellsFull));
+}
+
+/// Only the raw calls are lent marks.
+#[test]
+fn marks_beyond_the_cells() {
+    let (mut points, mut corners, mut neighbours) = ([0; 27], [0; 80], [0; 80]);
+    let mut work = [0; 60];
+    let mut tables = raw::Tables {
+        points: &mut points,
+        corners: &mut corners,
+        neighbours: &mut neighbours,
+        work: &mut work,
+    };
+    let (p, mut marks) = ([1, 2, 3], [7; 9]);
+    let mesh = raw::start([4; 3], &mut tables).mesh;
+    let short = raw::look(mesh, &mut tables, &mut marks[..5], p);
+    assert_eq!((short.refusal, short.after, marks), (10, 0, [7; 9]));
+    let looked = raw::look(mesh, &mut tables, &mut marks, p);
+    assert_eq!((looked.refusal, looked.after), (0, 6));
+    assert_eq!(marks, [1, 1, 1, 1, 1, 1, 7, 7, 7]);
+    let refused = |tables: &mut raw::Tables, marks: &[u8]| {
+        let answer = raw::insert_marked(mesh, tables, marks, p);
+        assert_eq!(answer.mesh, mesh);
+        answer.refusal
+    };
+    assert_eq!(refused(&mut tables, &marks[..5]), 14);
+    assert_eq!(refused(&mut tables, &[1, 1, 1, 1, 1, 2]), 14);
+    assert_eq!(refused(&mut tables, &[1, 1, 1, 1, 1, 0]), 14);
+    let inserted = raw::insert_marked(mesh, &mut tables, &marks, p);
+    assert_eq!((inserted.refusal, inserted.mesh.cells), (0, 12));
+}
+
 #[test]
 fn equal_where_every_call_answers_alike() {
     let built = |room, nodes: &[Position]| {
