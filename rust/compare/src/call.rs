@@ -3,7 +3,7 @@
 use std::ops::Range;
 
 use plain::{
-    Answers, Inserted, Listed, Located, Mesh, Position, Read, Sphere, Started, Written,
+    Answers, Inserted, Listed, Located, Looked, Mesh, Position, Read, Sphere, Started, Written,
     OUT_OF_RANGE,
 };
 
@@ -18,6 +18,9 @@ pub enum Call {
     Start(Position),
     Insert(Position),
     InsertAnswers(Vec<u8>, Position),
+    /// What the lent marks are before the call, and the node.
+    Look(Vec<u8>, Position),
+    InsertMarked(Vec<u8>, Position),
     InsertList(Vec<u32>),
     Locate(Position),
     Check,
@@ -50,6 +53,7 @@ pub enum Answer {
     Sphere(Sphere),
     Started(Started),
     Inserted(Inserted),
+    Looked(Looked),
     Listed(Listed),
     Located(Located),
     Checked(bool),
@@ -63,6 +67,7 @@ impl Answer {
         match self {
             Answer::Sphere(sphere) => sphere.t.to_bits(),
             Answer::Inserted(inserted) => inserted.least.to_bits(),
+            Answer::Looked(looked) => looked.least.to_bits(),
             _ => 0,
         }
     }
@@ -79,6 +84,7 @@ impl Answer {
             Answer::Sphere(sphere) => sphere.refusal,
             Answer::Started(started) => started.refusal,
             Answer::Inserted(inserted) => inserted.refusal,
+            Answer::Looked(looked) => looked.refusal,
             Answer::Listed(listed) => listed.refusal,
             Answer::Located(located) => located.refusal,
             Answer::Read(read) => read.refusal,
@@ -108,12 +114,13 @@ pub struct Left {
 pub struct Others {
     /// A list of nodes, or an output.
     pub numbers: Guarded<u32>,
-    /// Only read: answers or files.
+    /// Only read: answers, marks or files.
     pub input: Guarded<u8>,
+    /// Written: a file, or a look's marks.
     pub output: Guarded<u8>,
 }
 
-/// What an output holds before the call.
+/// What an output holds before the call; a look's marks may be any.
 const FILLED: u8 = 0x3C;
 
 impl Call {
@@ -125,6 +132,8 @@ impl Call {
             Call::Start(_) => "start",
             Call::Insert(_) => "insert",
             Call::InsertAnswers(..) => "insert_answers",
+            Call::Look(..) => "look",
+            Call::InsertMarked(..) => "insert_marked",
             Call::InsertList(_) => "insert_list",
             Call::Locate(_) => "locate",
             Call::Check => "check",
@@ -167,6 +176,10 @@ impl Call {
                 let answers = Answers::Given(input.lent());
                 Answer::Inserted(builder.insert(mesh, lent, answers, p))
             }
+            Call::Look(_, p) => Answer::Looked(builder.look(mesh, lent, output.lend(), p)),
+            Call::InsertMarked(_, p) => {
+                Answer::Inserted(builder.insert_marked(mesh, lent, input.lent(), p))
+            }
             Call::InsertList(_) => Answer::Listed(builder.insert_list(mesh, lent, numbers.lent())),
             Call::Locate(p) => Answer::Located(builder.locate(mesh, lent, p)),
             Call::Check => Answer::Checked(builder.check(mesh, lent)),
@@ -180,23 +193,26 @@ impl Call {
     }
 
     fn others(&self) -> Others {
-        let (numbers, room) = match self {
-            Call::InsertList(nodes) => (nodes.clone(), 0),
-            Call::ReadNodes(_, room) => (vec![FILLED as u32; *room], 0),
-            Call::WriteNodes(room) | Call::Merge(Merge { room, .. }) => (vec![], *room),
-            _ => (vec![], 0),
+        let (numbers, output) = match self {
+            Call::InsertList(nodes) => (nodes.clone(), vec![]),
+            Call::ReadNodes(_, room) => (vec![FILLED as u32; *room], vec![]),
+            Call::WriteNodes(room) | Call::Merge(Merge { room, .. }) => {
+                (vec![], vec![FILLED; *room])
+            }
+            Call::Look(marks, _) => (vec![], marks.clone()),
+            _ => (vec![], vec![]),
         };
         Others {
             numbers: Guarded::new(&numbers, 0x5A5A_5A5A),
             input: Guarded::new(self.input(), 0x5A),
-            output: Guarded::new(&vec![FILLED; room], 0x5A),
+            output: Guarded::new(&output, 0x5A),
         }
     }
 
     /// Bytes that are only read.
     pub fn input(&self) -> &[u8] {
         match self {
-            Call::InsertAnswers(answers, _) => answers,
+            Call::InsertAnswers(bytes, _) | Call::InsertMarked(bytes, _) => bytes,
             Call::ReadNodes(file, _) => file,
             Call::Merge(merge) => &merge.area,
             _ => &[],

@@ -4,9 +4,11 @@ use plain::random::Random;
 use plain::{Mesh, Owned, Position, CELL_LIMIT, NONE, POINT_LIMIT, SIDE_LIMIT};
 
 use crate::call::{Call, Left};
+use crate::marks;
 use crate::merges;
 use crate::nodes::{self, Spread};
 use crate::spheres::{sphere_test, NearTie, NEAR_TIES};
+use crate::tally::ACCEPTED;
 
 /// One call and what it is lent.
 pub struct Step {
@@ -26,6 +28,8 @@ pub struct History {
     near_tie: Option<&'static NearTie>,
     /// The position of the last locate call.
     parked: Option<Position>,
+    /// The node of the last look that was accepted, and the marks that it left.
+    looked: Option<(Position, Vec<u8>)>,
     calls_left: u64,
     is_begun: bool,
 }
@@ -35,7 +39,7 @@ impl History {
         let tables = tables(random);
         let is_long = tables.points.len() >= 3 * POINT_LIMIT;
         let near_tie = &NEAR_TIES[random.index(NEAR_TIES.len())];
-        let near_tie = Some(near_tie).filter(|_| !is_long && random.one_in(30));
+        let near_tie = Some(near_tie).filter(|_| !is_long && random.one_in(20));
         let sides = match near_tie {
             Some(tie) => tie.sides,
             None if is_long => [SIDE_LIMIT; 3],
@@ -48,6 +52,7 @@ impl History {
             tables,
             near_tie,
             parked: None,
+            looked: None,
             calls_left: 5 + random.below(40),
             is_begun: false,
         }
@@ -98,8 +103,12 @@ impl History {
             self.mesh = mesh;
             self.sides = mesh.sides();
         }
-        if let Call::Locate(p) = step.call {
-            self.parked = Some(p);
+        match step.call {
+            Call::Locate(p) => self.parked = Some(p),
+            Call::Look(_, p) if left.answer.outcome() == ACCEPTED => {
+                self.looked = Some((p, left.others.output.lent().to_vec()));
+            }
+            _ => {}
         }
     }
 
@@ -107,12 +116,16 @@ impl History {
         if let Some(call) = self.of_near_tie(random) {
             return call;
         }
-        // Few meshes have numbers of points that take more than a byte.
-        if self.mesh.points > 256 && random.one_in(3) {
-            return Call::Locate(self.located(random));
-        }
         let p = self.node(random);
-        match random.below(42) {
+        // Few meshes have numbers that take more than a byte.
+        if self.mesh.points > 256 && random.one_in(2) {
+            return match random.below(5) {
+                0 => marks::look(random, self.mesh, p),
+                1 => self.insert_marked(random, p),
+                _ => Call::Locate(self.located(random)),
+            };
+        }
+        match random.below(54) {
             0 => Call::Start(nodes::any_sides(random)),
             1 => Call::Volume6(twelve(random)),
             2..4 => sphere_test(random),
@@ -123,17 +136,22 @@ impl History {
             12..16 => Call::Locate(self.located(random)),
             16..20 => self.list(random),
             20..28 => Call::Insert(p),
+            28..33 => marks::look(random, self.mesh, p),
+            33..40 => self.insert_marked(random, p),
             _ => Call::InsertAnswers(nodes::answers(random, self.mesh.cells as usize), p),
         }
     }
 
-    /// The next node of the near tie, or all that are left, by the sphere test; now and then another call comes between.
+    /// A look at the next node of the near tie, or its insertion, or that of all that are left, by the sphere test; now and then
+    /// another call comes between.
     fn of_near_tie(&self, random: &mut Random) -> Option<Call> {
         let rest = self.near_tie?.rest(self.mesh)?;
         let &next = rest.first()?;
-        match random.below(16) {
+        match random.below(24) {
             0..4 => None,
             4..7 => Some(Call::InsertList(rest.as_flattened().to_vec())),
+            7..14 => Some(marks::look(random, self.mesh, next)),
+            14..16 => Some(self.insert_marked(random, next)),
             _ => Some(Call::Insert(next)),
         }
     }
@@ -160,6 +178,17 @@ impl History {
         let count = self.mesh.cells as usize;
         let cell = cells[..count].get(random.index(count))?;
         Some(cell.map(|point| points[point as usize]))
+    }
+
+    /// With the marks of the last look, which may be out of date, or with others.
+    fn insert_marked(&self, random: &mut Random, p: Position) -> Call {
+        match &self.looked {
+            Some((p, marks)) if random.one_in(4) => Call::InsertMarked(marks.clone(), *p),
+            _ => {
+                let nodes = [p, self.node(random)];
+                marks::insert_marked(random, self.mesh, &self.tables, nodes)
+            }
+        }
     }
 
     /// Any length, with up to two surplus numbers; long where the tables are.

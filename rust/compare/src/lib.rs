@@ -5,6 +5,7 @@ pub mod builders;
 pub mod call;
 pub mod generate;
 pub mod guarded;
+pub mod marks;
 pub mod merges;
 pub mod nodes;
 pub mod run;

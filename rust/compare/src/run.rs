@@ -62,6 +62,14 @@ fn describe(step: &Step) -> String {
             let yes = bytes.iter().filter(|&&byte| byte != 0).count();
             format!("insert {p:?} with {} answers, {yes} yes", bytes.len())
         }
+        Call::Look(marks, p) => format!("look at {p:?} with {} marks", marks.len()),
+        Call::InsertMarked(marks, p) => {
+            let replaced = marks.iter().filter(|&&mark| mark == 1).count();
+            format!(
+                "insert {p:?} with {} marks, {replaced} of them 1",
+                marks.len()
+            )
+        }
         Call::InsertList(numbers) => format!("insert a list of {} numbers", numbers.len()),
         Call::ReadNodes(file, room) => {
             format!(

@@ -3,7 +3,7 @@
 use plain::listing::cells;
 use plain::loaded::Cell;
 use plain::nodefile::encode;
-use plain::{Answers, Inserted, Mesh, Owned, Position, NONE};
+use plain::{Answers, Looked, Mesh, Owned, Position, NONE};
 
 use crate::builders::Builder;
 
@@ -22,6 +22,10 @@ pub enum Line {
     Sphere(Position),
     /// `answers 110101 1 2 3`, with a digit a cell, 0 for no.
     Answers(Vec<u8>, Position),
+    /// `look 1 2 3`, lent some marks more than cells.
+    Look(Position),
+    /// `marked 111111 1 2 3`: an insertion with these marks, a digit a byte.
+    Marked(Vec<u8>, Position),
     /// `locate 1 2 3`
     Locate(Position),
     /// `check`
@@ -31,6 +35,8 @@ pub enum Line {
     /// `cell 0 0 1 3 7 - 1 5 -`: no call, but a cell put into the tables, as a listing has it.
     Cell(u16, Cell),
 }
+
+const KINDS: &str = "'sphere', 'answers', 'look', 'marked', 'locate', 'check', 'merge' or 'cell'";
 
 fn number<T: std::str::FromStr>(word: &str) -> Result<T, String> {
     word.parse().map_err(|_| format!("{word}: no number"))
@@ -43,12 +49,13 @@ fn position(words: &[&str]) -> Result<Position, String> {
     }
 }
 
-fn digits(word: &str) -> Result<Vec<u8>, String> {
-    let digit = |c| match c {
-        '0' | '1' => Ok(c as u8 - b'0'),
-        _ => Err(format!("{word}: not 0s and 1s")),
+/// A digit a byte, up to the greatest.
+fn digits(word: &str, greatest: u8) -> Result<Vec<u8>, String> {
+    let digit = |byte: u8| match byte.wrapping_sub(b'0') {
+        digit if digit <= greatest => Ok(digit),
+        _ => Err(format!("{word}: not digits from 0 to {greatest}")),
     };
-    word.chars().map(digit).collect()
+    word.bytes().map(digit).collect()
 }
 
 fn start(line: &str) -> Result<Script, String> {
@@ -94,7 +101,9 @@ fn line(text: &str, room: u16) -> Result<Line, String> {
     let words: Vec<&str> = text.split_whitespace().collect();
     match words[..] {
         ["sphere", ref node @ ..] => Ok(Line::Sphere(position(node)?)),
-        ["answers", bytes, ref node @ ..] => Ok(Line::Answers(digits(bytes)?, position(node)?)),
+        ["answers", bytes, ref node @ ..] => Ok(Line::Answers(digits(bytes, 1)?, position(node)?)),
+        ["look", ref node @ ..] => Ok(Line::Look(position(node)?)),
+        ["marked", marks, ref node @ ..] => Ok(Line::Marked(digits(marks, 9)?, position(node)?)),
         ["locate", ref position @ ..] => Ok(Line::Locate(self::position(position)?)),
         ["check"] => Ok(Line::Check),
         ["merge", ref files @ ..] => merge(files),
@@ -102,25 +111,43 @@ fn line(text: &str, room: u16) -> Result<Line, String> {
             Line::Cell(place, _) if place >= room => Err(format!("no room for a cell {place}")),
             cell => Ok(cell),
         },
-        _ => Err(
-            "not a line of 'sphere', 'answers', 'locate', 'check', 'merge' or 'cell'".to_string(),
-        ),
+        _ => Err(format!("not a line of {KINDS}")),
     }
 }
 
-fn said(answer: Inserted) -> String {
-    let Inserted {
+fn said(report: Looked) -> String {
+    let Looked {
         refusal,
         point,
         before,
         after,
         made,
         least,
-        ..
-    } = answer;
+    } = report;
     match refusal {
         0 => format!("point {point} before {before} after {after} made {made} least {least}\n"),
         number => format!("refused {number}\n"),
+    }
+}
+
+/// How many marks are lent beyond the cells, and what all are before a look.
+const BEYOND: usize = 3;
+const UNMARKED: u8 = 9;
+
+/// The report and the marks, a digit each, or the refusal.
+fn looked(build: &dyn Builder, mesh: Mesh, tables: &mut Owned, p: Position) -> String {
+    let mut marks = vec![UNMARKED; mesh.cells as usize + BEYOND];
+    let report = build.look(mesh, &mut tables.lend(), &mut marks, p);
+    let digits = |marks: &[u8]| marks.iter().map(u8::to_string).collect::<String>();
+    let (marks, beyond) = marks.split_at(mesh.cells as usize);
+    match report.refusal {
+        0 => format!(
+            "look {}marks {} beyond {}\n",
+            said(report),
+            digits(marks),
+            digits(beyond)
+        ),
+        _ => said(report),
     }
 }
 
@@ -185,9 +212,17 @@ impl Script {
 
 impl Line {
     fn play(&self, build: &dyn Builder, mesh: &mut Mesh, tables: &mut Owned) -> String {
-        let (answers, node) = match self {
-            Line::Sphere(node) => (Answers::SphereTest, *node),
-            Line::Answers(bytes, node) => (Answers::Given(bytes), *node),
+        let answer = match self {
+            Line::Sphere(node) => {
+                build.insert(*mesh, &mut tables.lend(), Answers::SphereTest, *node)
+            }
+            Line::Answers(bytes, node) => {
+                build.insert(*mesh, &mut tables.lend(), Answers::Given(bytes), *node)
+            }
+            Line::Marked(marks, node) => {
+                build.insert_marked(*mesh, &mut tables.lend(), marks, *node)
+            }
+            Line::Look(p) => return looked(build, *mesh, tables, *p),
             Line::Locate(p) => return located(build, *mesh, tables, *p),
             Line::Check => {
                 let is_mesh = build.check(*mesh, &mut tables.lend());
@@ -201,8 +236,7 @@ impl Line {
                 return String::new();
             }
         };
-        let answer = build.insert(*mesh, &mut tables.lend(), answers, node);
         *mesh = answer.mesh;
-        said(answer)
+        said(answer.report())
     }
 }

@@ -11,10 +11,12 @@ const INSERTION: &[u8] = &[ACCEPTED, 1, 2, 3, 4, 5, 6, 8];
 
 /// The outcomes of each call that some input reaches. 7 is not among them: it is proved never to occur, and a
 /// comparison that meets one stops.
-const REACHABLE: [(&str, &[u8]); 11] = [
+const REACHABLE: [(&str, &[u8]); 13] = [
     ("start", &[ACCEPTED, 1, 2]),
     ("insert", INSERTION),
     ("insert_answers", INSERTION),
+    ("look", &[ACCEPTED, 1, 2, 3, 4, 5, 6, 8, 10]),
+    ("insert_marked", &[ACCEPTED, 1, 2, 3, 4, 5, 6, 8, 14]),
     ("insert_list", INSERTION),
     ("locate", &[ACCEPTED, 1, 2, 3, 4]),
     ("check", &[ACCEPTED, NO]),
@@ -25,7 +27,7 @@ const REACHABLE: [(&str, &[u8]); 11] = [
     ("sphere_test", &[ACCEPTED, 4, 11]),
 ];
 
-const COLUMNS: [u8; 13] = [ACCEPTED, 1, 2, 3, 4, 5, 6, 8, 9, 10, 11, 19, NO];
+const COLUMNS: [u8; 14] = [ACCEPTED, 1, 2, 3, 4, 5, 6, 8, 9, 10, 11, 14, 19, NO];
 
 pub fn is_reachable(call: &str, outcome: u8) -> bool {
     let mut rows = REACHABLE.iter();
@@ -105,6 +107,9 @@ mod tests {
         assert_eq!(tally.missing(), ["insert 6", "check no"]);
         tally.count("check", NO);
         assert_eq!(tally.missing(), ["insert 6"]);
-        assert!(!is_reachable("insert", 7) && !is_reachable("locate", 7));
+        for call in ["insert", "locate", "look", "insert_marked"] {
+            assert!(!is_reachable(call, 7));
+        }
+        assert!(!is_reachable("look", 14) && !is_reachable("insert_marked", 10));
     }
 }

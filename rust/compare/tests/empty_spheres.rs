@@ -1,6 +1,6 @@
 //! What is proved of spheres in crates/spheres, looked at on each build by itself: in a mesh whose nodes have all gone in by the
-//! sphere test, whatever was refused between, no point lies strictly inside the sphere of any cell, and the correction of a
-//! cavity removes nothing.
+//! sphere test, with marks or without, whatever was looked at or refused between, no point lies strictly inside the sphere of any
+//! cell, and the correction of a cavity removes nothing.
 
 use std::collections::BTreeMap;
 
@@ -12,7 +12,7 @@ use compare::{Builder, Plain, Tuned};
 use plain::geometry::{exact_sum, float_sum};
 use plain::loaded::Loaded;
 use plain::random::Random;
-use plain::{Answers, Mesh, Owned, Position, SIDE_LIMIT};
+use plain::{Answers, Looked, Mesh, Owned, Position, SIDE_LIMIT};
 
 /// How the nodes lie.
 #[derive(Clone, Copy)]
@@ -87,37 +87,64 @@ impl Bed<'_> {
         let cells = self.mesh.cells as usize;
         let taken = self.tables.points.as_chunks().0[random.index(self.mesh.points as usize)];
         let [x, y, _] = self.sides;
-        match random.below(9) {
+        match random.below(12) {
             0..4 => Call::Insert(self.node(random)),
             4..6 => Call::InsertList((0..5).flat_map(|_| self.node(random)).collect()),
             6 => Call::InsertAnswers(vec![1; cells - 1], self.node(random)),
             7 => Call::InsertAnswers(vec![1; cells], taken),
+            8 => Call::Look(vec![0; cells - random.index(2)], self.node(random)),
+            9 => self.looked(self.node(random)),
+            10 => Call::InsertMarked(vec![2; cells], self.node(random)),
             _ => Call::InsertList([self.node(random), [x, y + 1, 0]].concat()),
         }
+    }
+
+    /// An insertion with the marks of a look.
+    fn looked(&self, p: Position) -> Call {
+        let mut marks = vec![0; self.mesh.cells as usize];
+        let mut tables = self.tables.clone();
+        self.build
+            .look(self.mesh, &mut tables.lend(), &mut marks, p);
+        Call::InsertMarked(marks, p)
     }
 
     /// Makes the call, and says what it is; or that its report has unequal counts.
     fn make(&mut self, call: &Call) -> Result<&'static str, String> {
         let left = call.make(self.build, self.mesh, &GuardedTables::new(&self.tables));
         self.tables = left.tables.owned();
-        self.mesh = left.answer.mesh().expect("an insertion");
-        let is_accepted = left.answer.outcome() == 0;
-        match (call, left.answer) {
-            (Call::InsertAnswers(..), _) if !is_accepted => Ok("answers, refused"),
-            (Call::Insert(p), Answer::Inserted(report)) if is_accepted => {
-                match report.before == report.after {
-                    true => Ok("a node"),
-                    false => Err(format!("{p:?}: {} to {}", report.before, report.after)),
-                }
-            }
-            (Call::Insert(_), _) => Ok("a node, refused"),
-            (Call::InsertList(_), _) if is_accepted => Ok("a list"),
-            (Call::InsertList(_), Answer::Listed(listed)) if listed.place > 0 => {
-                Ok("a list that stops")
-            }
-            (Call::InsertList(_), _) => Ok("a list that stops at once"),
-            _ => panic!("{call:?}"),
+        self.mesh = left.answer.mesh().unwrap_or(self.mesh);
+        match (left.answer, left.answer.outcome()) {
+            (Answer::Listed(_), 0) => Ok("a list"),
+            (Answer::Listed(listed), _) if listed.place > 0 => Ok("a list that stops"),
+            (Answer::Listed(_), _) => Ok("a list that stops at once"),
+            (Answer::Inserted(inserted), 0) => uncorrected(call, inserted.report()),
+            (Answer::Looked(looked), 0) => uncorrected(call, looked),
+            _ => Ok(refused(call)),
         }
+    }
+}
+
+/// Of an accepted call.
+fn uncorrected(call: &Call, report: Looked) -> Result<&'static str, String> {
+    let (what, p) = match call {
+        Call::Insert(p) => ("a node", p),
+        Call::InsertMarked(_, p) => ("a node with marks", p),
+        Call::Look(_, p) => ("a look", p),
+        _ => panic!("{call:?}"),
+    };
+    match report.before == report.after {
+        true => Ok(what),
+        false => Err(format!("{p:?}: {} to {}", report.before, report.after)),
+    }
+}
+
+fn refused(call: &Call) -> &'static str {
+    match call {
+        Call::Insert(_) => "a node, refused",
+        Call::InsertAnswers(..) => "answers, refused",
+        Call::InsertMarked(..) => "marks, refused",
+        Call::Look(..) => "a look, refused",
+        _ => panic!("{call:?}"),
     }
 }
 
@@ -182,7 +209,7 @@ fn grown(build: &dyn Builder) -> Result<Counts, String> {
 fn holds_of(build: &dyn Builder) {
     let counts = grown(build).expect("no point inside");
     let missing: Vec<_> = counts.iter().filter(|(_, &count)| count == 0).collect();
-    assert!(missing.is_empty() && counts.len() == 10, "{missing:?}");
+    assert!(missing.is_empty() && counts.len() == 14, "{missing:?}");
 }
 
 #[test]

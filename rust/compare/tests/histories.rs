@@ -1,12 +1,13 @@
 //! The histories of examples/histories: each tells its wrong build apart. Six of them, and what they leave, are those of the
-//! proved table in crates/pieces; a seventh is the proved head of crates/pieces_parked.
+//! proved table in crates/pieces; a seventh is the proved head of crates/pieces_parked, and the two of wrong looks are the proved
+//! look of crates/pieces_look.
 
 use std::fmt::Write;
 
 use compare::{named, Script};
 
 /// The table holds histories of six wrong corrections; these builds are not among them.
-const NOT_IN_THE_TABLE: [&str; 12] = [
+const NOT_IN_THE_TABLE: [&str; 17] = [
     "coplanar-starred",
     "base-removed",
     "far-side-left-out",
@@ -19,6 +20,11 @@ const NOT_IN_THE_TABLE: [&str; 12] = [
     "last-in-order",
     "second-first",
     "across-files-only",
+    "marks-before-correction",
+    "marks-of-the-base",
+    "marks-cleared-past-the-count",
+    "any-nonzero-mark",
+    "marks-first",
 ];
 
 fn read(path: &str) -> String {
@@ -145,6 +151,35 @@ fn each_tells_its_wrong_build_apart() {
     }
 }
 
+/// Of both wrong looks: the base, the cavity before its correction and the corrected one all differ.
+#[test]
+fn the_corrected_look_is_the_proved_one() {
+    let text = read("crates/pieces_look/specs/Look.antt");
+    let line = |from: &str| numbers(between(&text, from, "\n"));
+    let (started, before) = (line("\nstarted ="), line("\nbefore ="));
+    let ([x, y, z, room, _], [_, cells, no, node @ ..]) = (&started[..], &before[..]) else {
+        panic!("{started:?} {before:?}");
+    };
+    let (no, node) = (no.to_string().repeat(*cells), words(node));
+    let looked = words(&line("\nnode ="));
+    let calls =
+        format!("box {x} {y} {z} points 11 cells {room}\nanswers {no} {node}\nlook {looked}\n");
+    let report = line("\nreport =");
+    let [point, before, after, made, least] = report[..] else {
+        panic!("{report:?}");
+    };
+    let digits = words(&line("pub marks :")).replace(' ', "");
+    let (marks, beyond) = digits.split_at(digits.len() - 3);
+    let seen = format!(
+        "look point {point} before {before} after {after} made {made} least {least}\nmarks {marks} beyond {beyond}\n"
+    );
+    for name in ["marks-before-correction", "marks-of-the-base"] {
+        assert_eq!(read(&format!("examples/histories/{name}.calls")), calls);
+        let expected = read(&format!("examples/histories/{name}.txt"));
+        assert!(expected.contains(&seen), "{seen}");
+    }
+}
+
 #[test]
 fn a_bad_line_is_named() {
     let after = |calls: &str| {
@@ -156,7 +191,16 @@ fn a_bad_line_is_named() {
         .starts_with("line 1: not 'box"));
     assert_eq!(after("sphere 1 2"), "line 2: not three numbers");
     assert_eq!(after("sphere 1 2 3\nsphere 1 2 x"), "line 3: x: no number");
-    assert_eq!(after("answers 12 1 2 3"), "line 2: 12: not 0s and 1s");
+    assert_eq!(
+        after("answers 12 1 2 3"),
+        "line 2: 12: not digits from 0 to 1"
+    );
+    assert_eq!(after("look 1 2"), "line 2: not three numbers");
+    assert_eq!(
+        after("marked 1x 1 2 3"),
+        "line 2: 1x: not digits from 0 to 9"
+    );
+    assert_eq!(after("marked 1 2 3"), "line 2: not three numbers");
     assert!(after("insert 1 2 3").starts_with("line 2: not a line of 'sphere'"));
     assert_eq!(after("locate 1 2"), "line 2: not three numbers");
     assert_eq!(after("merge 1 2 3 and 1 2"), "line 2: not three numbers");

@@ -2,7 +2,8 @@
 
 use compare::{run, Builder, Stop, Tuned};
 use plain::{
-    Answers, Inserted, Listed, Located, Mesh, Position, Read, Sphere, Started, Tables, Written,
+    Answers, Inserted, Listed, Located, Looked, Mesh, Position, Read, Sphere, Started, Tables,
+    Written,
 };
 
 #[derive(Clone, Copy, PartialEq)]
@@ -24,6 +25,14 @@ enum Harm {
     Place,
     /// A located cell is refused.
     Unheld,
+    /// A look changes a mark past the cells.
+    MarkBeyond,
+    /// A refused look changes a mark.
+    MarkRefused,
+    /// A look inserts the node.
+    Look,
+    /// The record of an insertion with other marks is cleared.
+    OtherMarks,
 }
 
 /// `tuned` with one harm done.
@@ -70,6 +79,34 @@ impl Builder for Harmed {
             }
             (Harm::Sign, Answers::Given(_)) => answer.least = -answer.least,
             _ => {}
+        }
+        answer
+    }
+
+    fn look(&self, mesh: Mesh, tables: &mut Tables, marks: &mut [u8], p: Position) -> Looked {
+        let answer = Tuned.look(mesh, tables, marks, p);
+        let place = match (self.0, answer.refusal) {
+            (Harm::MarkBeyond, 0) => mesh.cells as usize,
+            (Harm::MarkRefused, 1..) => 0,
+            _ => marks.len(),
+        };
+        marks.iter_mut().skip(place).take(1).for_each(|m| *m ^= 1);
+        if self.0 == Harm::Look {
+            Tuned.insert(mesh, tables, Answers::SphereTest, p);
+        }
+        answer
+    }
+
+    fn insert_marked(
+        &self,
+        mesh: Mesh,
+        tables: &mut Tables,
+        marks: &[u8],
+        p: Position,
+    ) -> Inserted {
+        let mut answer = Tuned.insert_marked(mesh, tables, marks, p);
+        if self.0 == Harm::OtherMarks && answer.refusal == 14 {
+            answer.mesh = Mesh::default();
         }
         answer
     }
@@ -124,6 +161,10 @@ fn every_harm_is_found() {
         (Harm::Byte, "output["),
         (Harm::Merged, "output["),
         (Harm::Place, "answer: "),
+        (Harm::MarkBeyond, "output["),
+        (Harm::MarkRefused, "output["),
+        (Harm::Look, "points["),
+        (Harm::OtherMarks, "answer: "),
     ];
     for (harm, what) in cases {
         for stop in [stop(harm, Harm::None), stop(Harm::None, harm)] {

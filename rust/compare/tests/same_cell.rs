@@ -88,14 +88,24 @@ impl Bed<'_> {
     }
 
     fn insertion(&self, random: &mut Random) -> Call {
-        match random.below(3) {
+        match random.below(4) {
             0 => Call::Insert(self.node(random)),
-            1 => {
+            1 => self.looked(self.node(random)),
+            2 => {
                 let bytes = nodes::answers(random, self.mesh.cells as usize);
                 Call::InsertAnswers(bytes, self.node(random))
             }
             _ => Call::InsertList((0..4).flat_map(|_| self.node(random)).collect()),
         }
+    }
+
+    /// An insertion with the marks of a look.
+    fn looked(&self, p: Position) -> Call {
+        let mut marks = vec![0; self.mesh.cells as usize];
+        let mut tables = self.tables.clone();
+        self.build
+            .look(self.mesh, &mut tables.lend(), &mut marks, p);
+        Call::InsertMarked(marks, p)
     }
 
     /// Makes the call; the cells that were in a corrected cavity, by their corners.
@@ -112,7 +122,7 @@ impl Bed<'_> {
 /// The cells of the corrected cavities of the first nodes of a call, by the plain build.
 fn replaced(call: &Call, mut mesh: Mesh, mut tables: Owned, count: usize) -> BTreeSet<Corners> {
     let (answers, nodes) = match call {
-        Call::Insert(p) => (Answers::SphereTest, vec![*p]),
+        Call::Insert(p) | Call::InsertMarked(_, p) => (Answers::SphereTest, vec![*p]),
         Call::InsertAnswers(bytes, p) => (Answers::Given(bytes), vec![*p]),
         Call::InsertList(numbers) => (Answers::SphereTest, numbers.as_chunks().0.to_vec()),
         _ => panic!("not an insertion"),
@@ -131,12 +141,13 @@ fn replaced(call: &Call, mut mesh: Mesh, mut tables: Owned, count: usize) -> BTr
 
 /// Of a head whose cell was not replaced.
 #[rustfmt::skip]
-fn situations(call: &Call, before: &Parked, after: &Parked) -> [(&'static str, bool); 7] {
+fn situations(call: &Call, before: &Parked, after: &Parked) -> [(&'static str, bool); 8] {
     let is_shared = before.holding.len() > 1;
     let is_new = |corners: &Corners| corners[3] as u32 >= before.points;
     [
         ("strictly inside, or on a wall", !is_shared),
         ("by the sphere test", is_shared && matches!(call, Call::Insert(_))),
+        ("with a look's marks", is_shared && matches!(call, Call::InsertMarked(..))),
         ("by answers handed in", is_shared && matches!(call, Call::InsertAnswers(..))),
         ("by a list, several nodes", is_shared && after.points > before.points + 1),
         ("the number changed", is_shared && before.number != after.number),
@@ -220,7 +231,7 @@ fn any_order(build: &dyn Builder) -> Result<(), String> {
 fn holds_of(build: &dyn Builder) {
     let counts = parked_heads(build).expect("heads stay");
     let missing: Vec<_> = counts.iter().filter(|(_, &count)| count == 0).collect();
-    assert!(missing.is_empty() && counts.len() == 7, "{missing:?}");
+    assert!(missing.is_empty() && counts.len() == 8, "{missing:?}");
     any_order(build).expect("one cell");
 }
 

@@ -125,10 +125,52 @@ pub struct Inserted {
 
 impl Inserted {
     pub fn refused(refusal: u8, mesh: Mesh) -> Inserted {
-        Inserted {
+        Looked::refused(refusal).with(mesh)
+    }
+
+    /// What a look would have answered.
+    pub fn report(self) -> Looked {
+        Looked {
+            refusal: self.refusal,
+            point: self.point,
+            before: self.before,
+            after: self.after,
+            made: self.made,
+            least: self.least,
+        }
+    }
+}
+
+/// The report alone.
+#[repr(C)]
+#[derive(Clone, Copy, Debug, Default, PartialEq)]
+pub struct Looked {
+    pub refusal: u8,
+    pub point: u32,
+    pub before: u32,
+    pub after: u32,
+    pub made: u32,
+    pub least: f64,
+}
+
+impl Looked {
+    pub fn refused(refusal: u8) -> Looked {
+        Looked {
             refusal,
+            ..Looked::default()
+        }
+    }
+
+    /// The answer of an insertion that leaves this record.
+    pub fn with(self, mesh: Mesh) -> Inserted {
+        Inserted {
+            refusal: self.refusal,
             mesh,
-            ..Inserted::default()
+            point: self.point,
+            before: self.before,
+            after: self.after,
+            made: self.made,
+            least: self.least,
         }
     }
 }

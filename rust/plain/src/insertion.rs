@@ -1,9 +1,9 @@
-//! The three insertion calls.
+//! The four insertion calls.
 
-use crate::calls::{in_box, Inserted, Listed, Mesh, Position, Tables};
+use crate::calls::{Inserted, Listed, Mesh, Position, Tables};
 pub use crate::cavity::Answers;
-use crate::cavity::Cavity;
 use crate::check::mesh_refusal;
+use crate::found::{find, Found};
 use crate::loaded::{Cell, Loaded};
 use crate::rules::{RightRules, Rules};
 use crate::star::star;
@@ -14,6 +14,11 @@ pub fn insert(mesh: Mesh, tables: &mut Tables, p: Position) -> Inserted {
 
 pub fn insert_answers(mesh: Mesh, tables: &mut Tables, answers: &[u8], p: Position) -> Inserted {
     insert_with(&RightRules, mesh, tables, Answers::Given(answers), p)
+}
+
+/// "The insertion proper takes the node and those marks, and goes through only if a look now would mark the same."
+pub fn insert_marked(mesh: Mesh, tables: &mut Tables, marks: &[u8], p: Position) -> Inserted {
+    insert_marked_with(&RightRules, mesh, tables, marks, p)
 }
 
 pub fn insert_list(mesh: Mesh, tables: &mut Tables, nodes: &[u32]) -> Listed {
@@ -34,10 +39,25 @@ pub fn insert_with(
     };
     let answer = match mesh_refusal(rules, mesh, tables, answer_bytes) {
         0 => insert_in_mesh(rules, mesh, tables, answers, p),
-        refusal => Inserted::refused(refusal, mesh),
+        refusal => Err(refusal),
     };
     tables.work.fill(0);
-    answer
+    answer.unwrap_or_else(|refusal| Inserted::refused(refusal, mesh))
+}
+
+pub fn insert_marked_with(
+    rules: &dyn Rules,
+    mesh: Mesh,
+    tables: &mut Tables,
+    marks: &[u8],
+    p: Position,
+) -> Inserted {
+    let answer = match mesh_refusal(rules, mesh, tables, usize::MAX) {
+        0 => insert_marked_in_mesh(rules, mesh, tables, marks, p),
+        refusal => Err(refusal),
+    };
+    tables.work.fill(0);
+    answer.unwrap_or_else(|refusal| Inserted::refused(refusal, mesh))
 }
 
 pub fn insert_list_with(
@@ -63,15 +83,16 @@ fn insert_nodes(rules: &dyn Rules, mut mesh: Mesh, tables: &mut Tables, nodes: &
     let mut place = 0;
     for node in nodes.chunks_exact(3) {
         let p = [node[0], node[1], node[2]];
-        let inserted = insert_in_mesh(rules, mesh, tables, Answers::SphereTest, p);
-        if inserted.refusal != 0 {
-            return Listed {
-                refusal: inserted.refusal,
-                mesh,
-                place,
-            };
+        match insert_in_mesh(rules, mesh, tables, Answers::SphereTest, p) {
+            Ok(inserted) => mesh = inserted.mesh,
+            Err(refusal) => {
+                return Listed {
+                    refusal,
+                    mesh,
+                    place,
+                }
+            }
         }
-        mesh = inserted.mesh;
         place += 1;
     }
     Listed {
@@ -81,51 +102,58 @@ fn insert_nodes(rules: &dyn Rules, mut mesh: Mesh, tables: &mut Tables, nodes: &
     }
 }
 
-/// Refusals 4 to 8, and the insertion, in tables that pass the mesh check.
+/// In tables that pass the mesh check.
 fn insert_in_mesh(
     rules: &dyn Rules,
     mesh: Mesh,
     tables: &mut Tables,
     answers: Answers,
     p: Position,
-) -> Inserted {
+) -> Result<Inserted, u8> {
     let loaded = Loaded::load(mesh, tables);
-    if !in_box(loaded.sides, p) {
-        return Inserted::refused(4, mesh);
+    let found = find(rules, &loaded, tables, answers, p)?;
+    match found.is_too_large(tables) {
+        true => Err(8),
+        false => Ok(put_in(mesh, tables, &found)),
     }
-    if loaded.points.contains(&p) {
-        return Inserted::refused(5, mesh);
+}
+
+/// In tables that pass the mesh check.
+fn insert_marked_in_mesh(
+    rules: &dyn Rules,
+    mesh: Mesh,
+    tables: &mut Tables,
+    marks: &[u8],
+    p: Position,
+) -> Result<Inserted, u8> {
+    let loaded = Loaded::load(mesh, tables);
+    let found = find(rules, &loaded, tables, Answers::SphereTest, p)?;
+    match rules.last_refusal(found.is_too_large(tables), are_other(rules, &found, marks)) {
+        0 => Ok(put_in(mesh, tables, &found)),
+        refusal => Err(refusal),
     }
-    if loaded.points.len() == tables.point_capacity() {
-        return Inserted::refused(6, mesh);
-    }
-    let mut cavity = Cavity::base(rules, &loaded, p);
-    if cavity.cells().is_empty() {
-        return Inserted::refused(7, mesh);
-    }
-    cavity.grow(answers);
-    let before = cavity.cells().len();
-    let least = cavity.least(answers);
-    rules.correct(&mut cavity);
-    let made = cavity.starred_faces().len();
-    if loaded.cells.len() + made > tables.cell_capacity() {
-        return Inserted::refused(8, mesh);
-    }
-    let cells = star(&cavity, loaded.points.len() as u16);
-    store(mesh, tables, p, &cells, loaded.cells.len() + made);
-    Inserted {
-        refusal: 0,
-        mesh: Mesh {
-            points: mesh.points + 1,
-            cells: cells.len() as u32,
-            ..mesh
-        },
-        point: mesh.points,
-        before: before as u32,
-        after: cavity.cells().len() as u32,
-        made: made as u32,
-        least,
-    }
+}
+
+/// "If the marks differ or are too few."
+fn are_other(rules: &dyn Rules, found: &Found, marks: &[u8]) -> bool {
+    let replaced = found.replaced();
+    marks.len() < replaced.len()
+        || replaced
+            .iter()
+            .zip(marks)
+            .any(|(&is_replaced, &mark)| !rules.is_same_mark(mark, is_replaced))
+}
+
+/// The star in the tables, and the answer.
+fn put_in(mesh: Mesh, tables: &mut Tables, found: &Found) -> Inserted {
+    let cells = star(&found.cavity, mesh.points as u16);
+    let cleared_to = mesh.cells as usize + found.made;
+    store(mesh, tables, found.cavity.p, &cells, cleared_to);
+    found.report().with(Mesh {
+        points: mesh.points + 1,
+        cells: cells.len() as u32,
+        ..mesh
+    })
 }
 
 /// "Entries from the new count up to old count plus new cells are 0; those beyond are unchanged."

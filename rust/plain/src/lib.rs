@@ -5,10 +5,12 @@
 pub mod calls;
 pub mod cavity;
 pub mod check;
+pub mod found;
 pub mod geometry;
 pub mod insertion;
 pub mod listing;
 pub mod loaded;
+pub mod look;
 pub mod merge;
 pub mod nodefile;
 pub mod random;
@@ -18,8 +20,12 @@ pub mod star;
 pub use calls::*;
 pub use check::{check, check_with};
 pub use geometry::{sphere_test, sphere_test_with, volume6, OUT_OF_RANGE};
-pub use insertion::{insert, insert_answers, insert_list, insert_list_with, insert_with, Answers};
+pub use insertion::{
+    insert, insert_answers, insert_list, insert_list_with, insert_marked, insert_marked_with,
+    insert_with, Answers,
+};
 pub use listing::listing;
+pub use look::{look, look_with};
 pub use merge::{merge, merge_with};
 pub use nodefile::{read_nodes, write_nodes, write_nodes_with};
 pub use rules::{RightRules, Rules};

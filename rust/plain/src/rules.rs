@@ -50,6 +50,32 @@ pub trait Rules {
         face == Face::Visible
     }
 
+    /// Of a look: it "marks each cell of the corrected spot". `grown` is the spot before its correction.
+    fn replaced(&self, _grown: &[bool], corrected: &Cavity) -> Vec<bool> {
+        corrected.in_cavity.clone()
+    }
+
+    /// "With byte 1, all other cells with 0, and changes nothing else": no mark beyond the cells either.
+    fn write_marks(&self, replaced: &[bool], marks: &mut [u8]) {
+        for (mark, &is_replaced) in marks.iter_mut().zip(replaced) {
+            *mark = is_replaced.into();
+        }
+    }
+
+    /// Is a mark that is handed in the one that a look would write?
+    fn is_same_mark(&self, mark: u8, is_replaced: bool) -> bool {
+        mark == is_replaced.into()
+    }
+
+    /// The last two tests of an insertion with marks, or 0: "14 if the marks differ or are too few, after 8".
+    fn last_refusal(&self, is_full: bool, are_other: bool) -> u8 {
+        match (is_full, are_other) {
+            (true, _) => 8,
+            (false, true) => 14,
+            (false, false) => 0,
+        }
+    }
+
     /// Of the mesh check: the neighbour's "fourth corner lies strictly on the other side", where `side` is below 0.
     fn is_on_far_side(&self, side: i128) -> bool {
         side < 0

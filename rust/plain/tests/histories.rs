@@ -142,12 +142,14 @@ fn call_everything(kit: &mut Kit, random: &mut Random) {
     kit.mesh = listed.mesh;
     assert_eq!(kit.check(), was_mesh);
     plain::locate(kit.mesh, &mut kit.tables.lend(), p);
+    plain::look(kit.mesh, &mut kit.tables.lend(), &mut [0; 150], p);
     plain::write_nodes(kit.mesh, &mut kit.tables.lend(), &mut [0; 400]);
 }
 
 fn insert_somehow_in(kit: &mut Kit, random: &mut Random, p: Position) -> plain::Inserted {
-    let answer = match random.below(2) {
+    let answer = match random.below(3) {
         0 => plain::insert(kit.mesh, &mut kit.tables.lend(), p),
+        1 => plain::insert_marked(kit.mesh, &mut kit.tables.lend(), &[1; 150], p),
         _ => plain::insert_answers(kit.mesh, &mut kit.tables.lend(), &[1; 150], p),
     };
     kit.mesh = answer.mesh;

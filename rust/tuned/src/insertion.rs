@@ -1,34 +1,44 @@
-//! The three insertion calls. A list checks the mesh once: an accepted insertion leaves a mesh.
+//! The four insertion calls. A list checks the mesh once: an accepted insertion leaves a mesh.
 
 use plain::{in_box, Answers, Inserted, Listed, Mesh, Position, Tables};
 
 use crate::cavity::{Cavity, Corrected, Scratch};
 use crate::check::{mesh_refusal, used};
+use crate::look::are_those_of;
 use crate::star::write_star;
 
 pub fn insert(mesh: Mesh, tables: &mut Tables, p: Position) -> Inserted {
-    insert_one(mesh, tables, Answers::SphereTest, usize::MAX, p)
+    insert_one(mesh, tables, Answers::SphereTest, None, p)
 }
 
 pub fn insert_answers(mesh: Mesh, tables: &mut Tables, answers: &[u8], p: Position) -> Inserted {
-    insert_one(mesh, tables, Answers::Given(answers), answers.len(), p)
+    insert_one(mesh, tables, Answers::Given(answers), None, p)
+}
+
+/// "Goes through only if a look now would mark the same."
+pub fn insert_marked(mesh: Mesh, tables: &mut Tables, marks: &[u8], p: Position) -> Inserted {
+    insert_one(mesh, tables, Answers::SphereTest, Some(marks), p)
 }
 
 fn insert_one(
     mesh: Mesh,
     tables: &mut Tables,
     answers: Answers,
-    answer_bytes: usize,
+    marks: Option<&[u8]>,
     p: Position,
 ) -> Inserted {
     tables.work.fill(0);
+    let answer_bytes = match answers {
+        Answers::SphereTest => usize::MAX,
+        Answers::Given(bytes) => bytes.len(),
+    };
     let refusal = mesh_refusal(mesh, tables, answer_bytes);
     if refusal != 0 {
         return Inserted::refused(refusal, mesh);
     }
-    let answer = insert_in_mesh(mesh, tables, &mut Scratch::new(), answers, p);
+    let answer = insert_in_mesh(mesh, tables, &mut Scratch::new(), answers, marks, p);
     tables.work.fill(0);
-    answer
+    answer.unwrap_or_else(|refusal| Inserted::refused(refusal, mesh))
 }
 
 pub fn insert_list(mesh: Mesh, tables: &mut Tables, nodes: &[u32]) -> Listed {
@@ -50,15 +60,16 @@ fn insert_nodes(mut mesh: Mesh, tables: &mut Tables, nodes: &[u32]) -> Listed {
     let mut scratch = Scratch::new();
     let (nodes, _) = nodes.as_chunks();
     for (place, &p) in nodes.iter().enumerate() {
-        let inserted = insert_in_mesh(mesh, tables, &mut scratch, Answers::SphereTest, p);
-        if inserted.refusal != 0 {
-            return Listed {
-                refusal: inserted.refusal,
-                mesh,
-                place: place as u32,
-            };
+        match insert_in_mesh(mesh, tables, &mut scratch, Answers::SphereTest, None, p) {
+            Ok(inserted) => mesh = inserted.mesh,
+            Err(refusal) => {
+                return Listed {
+                    refusal,
+                    mesh,
+                    place: place as u32,
+                }
+            }
         }
-        mesh = inserted.mesh;
     }
     Listed {
         refusal: 0,
@@ -67,57 +78,61 @@ fn insert_nodes(mut mesh: Mesh, tables: &mut Tables, nodes: &[u32]) -> Listed {
     }
 }
 
-/// Refusals 4 to 8, and the insertion, in tables that pass the mesh check. The states are 0 before, and after an accepted
-/// insertion again.
+/// In tables that pass the mesh check. The states are 0 before, and after an accepted insertion again.
 fn insert_in_mesh(
     mesh: Mesh,
     tables: &mut Tables,
     scratch: &mut Scratch,
     answers: Answers,
+    marks: Option<&[u8]>,
     p: Position,
-) -> Inserted {
-    if !in_box(mesh.sides(), p) {
-        return Inserted::refused(4, mesh);
-    }
-    let points = mesh.points as usize;
-    scratch.codes.set(used(mesh, tables).0, p);
-    if scratch.codes.is_taken(points) {
-        return Inserted::refused(5, mesh);
-    }
-    if points == tables.point_capacity() {
-        return Inserted::refused(6, mesh);
-    }
-    let corrected = corrected_cavity(mesh, tables, scratch, answers, p);
-    if corrected.before == 0 {
-        return Inserted::refused(7, mesh);
-    }
-    let cells = mesh.cells as usize;
-    if cells + corrected.made > tables.cell_capacity() {
-        return Inserted::refused(8, mesh);
+) -> Result<Inserted, u8> {
+    let corrected = find(mesh, tables, scratch, answers, p)?;
+    let (points, cells) = (mesh.points as usize, mesh.cells as usize);
+    if marks.is_some_and(|marks| !are_those_of(marks, cells, corrected.cells(tables))) {
+        return Err(14);
     }
     let numbers = &mut scratch.numbers;
     write_star(tables, numbers, points as u16, cells, &corrected);
     forget(tables, &corrected);
     tables.points[3 * points..3 * points + 3].copy_from_slice(&p);
-    Inserted {
-        refusal: 0,
-        mesh: Mesh {
-            points: mesh.points + 1,
-            cells: (cells + corrected.made - corrected.after) as u32,
-            ..mesh
-        },
-        point: mesh.points,
-        before: corrected.before as u32,
-        after: corrected.after as u32,
-        made: corrected.made as u32,
-        least: match answers {
-            Answers::SphereTest => corrected.least,
-            Answers::Given(_) => 0.0,
-        },
-    }
+    Ok(corrected.report(mesh).with(Mesh {
+        points: mesh.points + 1,
+        cells: (cells + corrected.made - corrected.after) as u32,
+        ..mesh
+    }))
 }
 
-/// Base, growth and correction; nothing but the work area is written.
+/// Tests 4 to 8, and the corrected cavity; nothing but the work area is written.
+pub fn find(
+    mesh: Mesh,
+    tables: &mut Tables,
+    scratch: &mut Scratch,
+    answers: Answers,
+    p: Position,
+) -> Result<Corrected, u8> {
+    if !in_box(mesh.sides(), p) {
+        return Err(4);
+    }
+    let points = mesh.points as usize;
+    scratch.codes.set(used(mesh, tables).0, p);
+    if scratch.codes.is_taken(points) {
+        return Err(5);
+    }
+    if points == tables.point_capacity() {
+        return Err(6);
+    }
+    let corrected = corrected_cavity(mesh, tables, scratch, answers, p);
+    if corrected.before == 0 {
+        return Err(7);
+    }
+    if mesh.cells as usize + corrected.made > tables.cell_capacity() {
+        return Err(8);
+    }
+    Ok(corrected)
+}
+
+/// Base, growth and correction.
 fn corrected_cavity(
     mesh: Mesh,
     tables: &mut Tables,
@@ -147,7 +162,10 @@ fn corrected_cavity(
         after: cavity.len,
         made,
         back: cavity.back,
-        least: cavity.least,
+        least: match answers {
+            Answers::SphereTest => cavity.least,
+            Answers::Given(_) => 0.0,
+        },
     }
 }
 

@@ -9,16 +9,19 @@ mod check;
 mod geometry;
 mod insertion;
 mod locate;
+mod look;
 mod nodefile;
 mod side_codes;
 mod star;
 
 pub use check::check;
 pub use geometry::{sphere_test, volume6};
-pub use insertion::{insert, insert_answers, insert_list};
+pub use insertion::{insert, insert_answers, insert_list, insert_marked};
 pub use locate::locate;
+pub use look::look;
 pub use nodefile::{merge, write_nodes};
 pub use plain::{read_nodes, start};
 pub use plain::{
-    Inserted, Listed, Located, Mesh, Owned, Position, Read, Sphere, Started, Tables, Written,
+    Inserted, Listed, Located, Looked, Mesh, Owned, Position, Read, Sphere, Started, Tables,
+    Written,
 };

@@ -43,6 +43,28 @@ impl Pair {
         self.mesh = left.mesh;
     }
 
+    /// The marks that a look leaves, of so many.
+    fn look(&mut self, p: Position, room: usize) -> Vec<u8> {
+        self.tuned.work.fill(0xAAAA);
+        let [mut marks, mut other] = [vec![7; room], vec![7; room]];
+        let left = plain::look(self.mesh, &mut self.plain.lend(), &mut marks, p);
+        let right = tuned::look(self.mesh, &mut self.tuned.lend(), &mut other, p);
+        assert_eq!((left, left.least.to_bits()), (right, right.least.to_bits()));
+        assert_eq!(self.plain, self.tuned);
+        assert_eq!(marks, other);
+        marks
+    }
+
+    fn insert_marked(&mut self, marks: &[u8], p: Position) -> u8 {
+        self.tuned.work.fill(0xAAAA);
+        let left = plain::insert_marked(self.mesh, &mut self.plain.lend(), marks, p);
+        let right = tuned::insert_marked(self.mesh, &mut self.tuned.lend(), marks, p);
+        assert_eq!(bits(left), bits(right));
+        assert_eq!(self.plain, self.tuned);
+        self.mesh = left.mesh;
+        left.refusal
+    }
+
     fn insert_list(&mut self, nodes: &[u32]) {
         let left = plain::insert_list(self.mesh, &mut self.plain.lend(), nodes);
         let right = tuned::insert_list(self.mesh, &mut self.tuned.lend(), nodes);
@@ -90,6 +112,37 @@ fn single_insertions() {
             }
             pair.locate(position(&mut random, side + side / 4, spacing));
         }
+    }
+}
+
+/// Right marks, some of them with a byte changed: how often each was refused, by number.
+#[test]
+fn looks_and_marks() {
+    let mut refusals = [0; 15];
+    for seed in 0..40 {
+        let mut random = Random::new(seed);
+        let (side, spacing) = random.pick(&[(4, 1), (16, 2), (131_072, 1)]);
+        let room = random.pick(&[40, 120, 300]);
+        let mut pair = Pair::started([side; 3], 30, room);
+        for _ in 0..40 {
+            let p = position(&mut random, side, spacing);
+            let cells = pair.mesh.cells as usize;
+            if random.one_in(3) {
+                let bytes: Vec<u8> = (0..cells).map(|_| random.below(2) as u8).collect();
+                pair.insert_answers(&bytes, p);
+                continue;
+            }
+            pair.look(p, cells.saturating_sub(random.index(3)));
+            let mut marks = pair.look(p, cells + random.index(3));
+            if random.one_in(3) {
+                marks[random.index(cells)] ^= random.pick(&[1, 2, 3, 255]);
+            }
+            marks.truncate(marks.len() - random.pick(&[0, 0, 0, 1]));
+            refusals[pair.insert_marked(&marks, p) as usize] += 1;
+        }
+    }
+    for refusal in [0, 5, 6, 8, 14] {
+        assert!(refusals[refusal] > 0, "{refusal}: {refusals:?}");
     }
 }
 
@@ -146,6 +199,13 @@ fn every_table_entry_changed() {
             let yes = plain::check(mesh, &mut left.lend());
             assert_eq!(yes, tuned::check(mesh, &mut right.lend()));
             let p = [3, 3, 1];
+            let mut marks = [[1; 60]; 2];
+            let looked = plain::look(mesh, &mut left.lend(), &mut marks[0], p);
+            assert_eq!(
+                looked,
+                tuned::look(mesh, &mut right.lend(), &mut marks[1], p)
+            );
+            assert_eq!(marks[0], marks[1]);
             let inserted = plain::insert(mesh, &mut left.lend(), p);
             assert_eq!(
                 bits(inserted),

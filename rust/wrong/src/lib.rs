@@ -10,7 +10,7 @@ pub struct Build {
     pub rules: &'static dyn Rules,
 }
 
-pub const ALL: [Build; 18] = [
+pub const ALL: [Build; 23] = [
     build("zero-visible", &ZeroVisible),
     build("coplanar-starred", &CoplanarStarred),
     build("base-removed", &BaseRemoved),
@@ -29,6 +29,11 @@ pub const ALL: [Build; 18] = [
     build("last-in-order", &LastInOrder),
     build("second-first", &SecondFirst),
     build("across-files-only", &AcrossFilesOnly),
+    build("marks-before-correction", &MarksBeforeCorrection),
+    build("marks-of-the-base", &MarksOfTheBase),
+    build("marks-cleared-past-the-count", &MarksClearedPastTheCount),
+    build("any-nonzero-mark", &AnyNonzeroMark),
+    build("marks-first", &MarksFirst),
 ];
 
 const fn build(name: &'static str, rules: &'static dyn Rules) -> Build {
@@ -208,5 +213,55 @@ pub struct AcrossFilesOnly;
 impl Rules for AcrossFilesOnly {
     fn stands_earlier(&self, surveyed: &[Position], first: usize, place: usize) -> bool {
         place >= first && surveyed[..first].contains(&surveyed[place])
+    }
+}
+
+/// A look marks the cavity before its correction.
+pub struct MarksBeforeCorrection;
+
+impl Rules for MarksBeforeCorrection {
+    fn replaced(&self, grown: &[bool], _corrected: &Cavity) -> Vec<bool> {
+        grown.to_vec()
+    }
+}
+
+/// A look marks the cells that hold the node.
+pub struct MarksOfTheBase;
+
+impl Rules for MarksOfTheBase {
+    fn replaced(&self, _grown: &[bool], corrected: &Cavity) -> Vec<bool> {
+        corrected.in_base.clone()
+    }
+}
+
+/// A look clears all marks that it is lent before it writes those of the cells.
+pub struct MarksClearedPastTheCount;
+
+impl Rules for MarksClearedPastTheCount {
+    fn write_marks(&self, replaced: &[bool], marks: &mut [u8]) {
+        marks.fill(0);
+        RightRules.write_marks(replaced, marks);
+    }
+}
+
+/// An insertion with marks takes any nonzero byte for 1, as one with answers does.
+pub struct AnyNonzeroMark;
+
+impl Rules for AnyNonzeroMark {
+    fn is_same_mark(&self, mark: u8, is_replaced: bool) -> bool {
+        (mark != 0) == is_replaced
+    }
+}
+
+/// An insertion compares the marks as soon as the cavity is known, before it counts the new cells.
+pub struct MarksFirst;
+
+impl Rules for MarksFirst {
+    fn last_refusal(&self, is_full: bool, are_other: bool) -> u8 {
+        match (are_other, is_full) {
+            (true, _) => 14,
+            (false, true) => 8,
+            (false, false) => 0,
+        }
     }
 }

@@ -1,5 +1,5 @@
-//! What each wrong build does to a mesh, a located position or a merged file: for the five known ones, the symptom that
-//! document 01 names.
+//! What each wrong build does to a mesh, a located position, a merged file or the marks of a look: for the five known ones,
+//! the symptom that document 01 names.
 
 use plain::geometry::{exact_sum, float_sum};
 use plain::loaded::Loaded;
@@ -7,8 +7,9 @@ use plain::nodefile::encode;
 use plain::random::Random;
 use plain::{Answers, Inserted, Mesh, Owned, Position, RightRules, Rules};
 use wrong::{
-    AcrossFilesOnly, BaseRemoved, CloseOutside, CoplanarKeeps, CoplanarStarred, CornersUnsorted,
-    FarSideLeftOut, FloatSign, GreatestFirst, LastInOrder, LostCornersOnly, LowestNumbered,
+    AcrossFilesOnly, AnyNonzeroMark, BaseRemoved, CloseOutside, CoplanarKeeps, CoplanarStarred,
+    CornersUnsorted, FarSideLeftOut, FloatSign, GreatestFirst, LastInOrder, LostCornersOnly,
+    LowestNumbered, MarksBeforeCorrection, MarksClearedPastTheCount, MarksFirst, MarksOfTheBase,
     OneAtATime, OneRound, SecondFirst, TieInside, VisibilityOnly, ZeroVisible,
 };
 
@@ -310,6 +311,80 @@ fn across_files_only_leaves_a_node_that_does_not_go_in() {
             .last()
             .is_some_and(|line| line.starts_with("stopped ") && line.ends_with(" 5")));
     }
+}
+
+/// Is there a cell that a build's look marks or not, and whose place the node takes or not? The first node goes in by answers of
+/// no, so that the correction has cells to remove.
+fn has_cell(rules: &dyn Rules, is_marked: bool, is_replaced: bool) -> bool {
+    let mut kit = Kit::started([4; 3]);
+    kit.insert(&RightRules, Answers::Given(&[0; 6]), [4, 1, 0]);
+    let (p, mut marks) = ([4, 2, 0], [9; 7]);
+    let looked = plain::look_with(rules, kit.mesh, &mut kit.tables.lend(), &mut marks, p);
+    assert_eq!((looked.refusal, looked.before, looked.after), (0, 6, 3));
+    let mut after = kit.clone();
+    after.insert(&RightRules, Answers::SphereTest, p);
+    let (left, _) = after.tables.corners[..4 * after.mesh.cells as usize].as_chunks::<4>();
+    let (cells, _) = kit.tables.corners.as_chunks();
+    let mut marked = cells.iter().zip(marks);
+    marked.any(|(cell, mark)| (mark == 1, !left.contains(cell)) == (is_marked, is_replaced))
+}
+
+#[test]
+fn marks_before_correction_marks_a_cell_that_stays() {
+    assert!(!has_cell(&RightRules, true, false));
+    assert!(has_cell(&MarksBeforeCorrection, true, false));
+}
+
+#[test]
+fn marks_of_the_base_leaves_out_a_cell_that_goes() {
+    assert!(!has_cell(&RightRules, false, true));
+    assert!(has_cell(&MarksOfTheBase, false, true));
+}
+
+/// The marks of two looks, one behind the other.
+#[test]
+fn marks_cleared_past_the_count_loses_the_marks_behind() {
+    let mut kit = Kit::started([4; 3]);
+    let mut looked = |rules: &dyn Rules| {
+        let mut both = [9; 12];
+        for (place, p) in [(6, [2, 2, 0]), (0, [1, 2, 3])] {
+            let marks = &mut both[place..];
+            plain::look_with(rules, kit.mesh, &mut kit.tables.lend(), marks, p);
+        }
+        both
+    };
+    assert_eq!(looked(&RightRules), [1; 12]);
+    assert_eq!(
+        looked(&MarksClearedPastTheCount),
+        [1, 1, 1, 1, 1, 1, 0, 0, 0, 0, 0, 0]
+    );
+}
+
+/// The refusal of an insertion into the box 4, 4, 4 with these marks and room for so many cells.
+fn marked(rules: &dyn Rules, marks: &[u8], room: usize) -> u8 {
+    let mut kit = Kit::started([4; 3]);
+    kit.tables.corners.truncate(4 * room);
+    let mut tables = kit.tables.lend();
+    plain::insert_marked_with(rules, kit.mesh, &mut tables, marks, [1, 2, 3]).refusal
+}
+
+#[test]
+fn any_nonzero_mark_takes_marks_that_no_look_gives() {
+    for marks in [[2; 6], [255; 6], [1, 1, 1, 2, 1, 1]] {
+        assert_eq!(marked(&RightRules, &marks, 18), 14);
+        assert_eq!(marked(&AnyNonzeroMark, &marks, 18), 0);
+    }
+    assert_eq!(marked(&AnyNonzeroMark, &[1, 1, 1, 0, 1, 1], 18), 14);
+}
+
+/// After 14 a fitter looks again; but here each look is refused 8.
+#[test]
+fn marks_first_hides_that_the_cells_are_full() {
+    for marks in [&[0; 6][..], &[1; 5], &[2; 6]] {
+        assert_eq!(marked(&RightRules, marks, 17), 8);
+        assert_eq!(marked(&MarksFirst, marks, 17), 14);
+    }
+    assert_eq!(marked(&MarksFirst, &[1; 6], 17), 8);
 }
 
 /// Both nodes lie on one edge of the box, evenly about its middle, so that the second is on the spheres of cells of the first.

@@ -1,6 +1,7 @@
 use gantry::raw::{self, Record};
 use plain::{
-    Answers, Inserted, Listed, Located, Mesh, Position, Read, Sphere, Started, Tables, Written,
+    Answers, Inserted, Listed, Located, Looked, Mesh, Position, Read, Sphere, Started, Tables,
+    Written,
 };
 
 use super::Builder;
@@ -85,6 +86,33 @@ impl Builder for Archive {
             Answers::SphereTest => raw::insert(mesh, tables, p),
             Answers::Given(bytes) => raw::insert_answers(mesh, tables, bytes, p),
         })
+    }
+
+    fn look(&self, mesh: Mesh, tables: &mut Tables, marks: &mut [u8], p: Position) -> Looked {
+        let answer = raw::look(record(mesh), &mut lent(tables), marks, p);
+        Looked {
+            refusal: answer.refusal,
+            point: answer.point,
+            before: answer.before,
+            after: answer.after,
+            made: answer.made,
+            least: answer.least,
+        }
+    }
+
+    fn insert_marked(
+        &self,
+        mesh: Mesh,
+        tables: &mut Tables,
+        marks: &[u8],
+        p: Position,
+    ) -> Inserted {
+        inserted(raw::insert_marked(
+            record(mesh),
+            &mut lent(tables),
+            marks,
+            p,
+        ))
     }
 
     fn insert_list(&self, mesh: Mesh, tables: &mut Tables, nodes: &[u32]) -> Listed {

@@ -11,7 +11,8 @@ pub use self::plain::Plain;
 pub use self::tuned::Tuned;
 
 use ::plain::{
-    Answers, Inserted, Listed, Located, Mesh, Position, Read, Sphere, Started, Tables, Written,
+    Answers, Inserted, Listed, Located, Looked, Mesh, Position, Read, Sphere, Started, Tables,
+    Written,
 };
 
 /// The build with this name: plain, tuned, archive, or a wrong one.
@@ -42,6 +43,9 @@ pub trait Builder {
     fn start(&self, sides: Position, tables: &mut Tables) -> Started;
     /// By the sphere test or by answers handed in: two calls of the interface.
     fn insert(&self, mesh: Mesh, tables: &mut Tables, answers: Answers, p: Position) -> Inserted;
+    fn look(&self, mesh: Mesh, tables: &mut Tables, marks: &mut [u8], p: Position) -> Looked;
+    fn insert_marked(&self, mesh: Mesh, tables: &mut Tables, marks: &[u8], p: Position)
+        -> Inserted;
     fn insert_list(&self, mesh: Mesh, tables: &mut Tables, nodes: &[u32]) -> Listed;
     fn locate(&self, mesh: Mesh, tables: &mut Tables, p: Position) -> Located;
     fn check(&self, mesh: Mesh, tables: &mut Tables) -> bool;

@@ -1,6 +1,6 @@
 use plain::{
-    Answers, Inserted, Listed, Located, Mesh, Position, Read, RightRules, Rules, Sphere, Started,
-    Tables, Written,
+    Answers, Inserted, Listed, Located, Looked, Mesh, Position, Read, RightRules, Rules, Sphere,
+    Started, Tables, Written,
 };
 
 use super::Builder;
@@ -46,6 +46,20 @@ impl Builder for Plain {
         plain::insert_with(self.rules, mesh, tables, answers, p)
     }
 
+    fn look(&self, mesh: Mesh, tables: &mut Tables, marks: &mut [u8], p: Position) -> Looked {
+        plain::look_with(self.rules, mesh, tables, marks, p)
+    }
+
+    fn insert_marked(
+        &self,
+        mesh: Mesh,
+        tables: &mut Tables,
+        marks: &[u8],
+        p: Position,
+    ) -> Inserted {
+        plain::insert_marked_with(self.rules, mesh, tables, marks, p)
+    }
+
     fn insert_list(&self, mesh: Mesh, tables: &mut Tables, nodes: &[u32]) -> Listed {
         plain::insert_list_with(self.rules, mesh, tables, nodes)
     }
@@ -65,6 +79,7 @@ impl Builder for Plain {
     fn write_nodes(&self, mesh: Mesh, tables: &mut Tables, out: &mut [u8]) -> Written {
         plain::write_nodes_with(self.rules, mesh, tables, out)
     }
+
     fn merge(&self, first: &[u8], second: &[u8], out: &mut [u8]) -> Written {
         plain::merge_with(self.rules, first, second, out)
     }

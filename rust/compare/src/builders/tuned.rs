@@ -1,5 +1,6 @@
 use plain::{
-    Answers, Inserted, Listed, Located, Mesh, Position, Read, Sphere, Started, Tables, Written,
+    Answers, Inserted, Listed, Located, Looked, Mesh, Position, Read, Sphere, Started, Tables,
+    Written,
 };
 
 use super::Builder;
@@ -30,6 +31,20 @@ impl Builder for Tuned {
         }
     }
 
+    fn look(&self, mesh: Mesh, tables: &mut Tables, marks: &mut [u8], p: Position) -> Looked {
+        tuned::look(mesh, tables, marks, p)
+    }
+
+    fn insert_marked(
+        &self,
+        mesh: Mesh,
+        tables: &mut Tables,
+        marks: &[u8],
+        p: Position,
+    ) -> Inserted {
+        tuned::insert_marked(mesh, tables, marks, p)
+    }
+
     fn insert_list(&self, mesh: Mesh, tables: &mut Tables, nodes: &[u32]) -> Listed {
         tuned::insert_list(mesh, tables, nodes)
     }
@@ -49,6 +64,7 @@ impl Builder for Tuned {
     fn write_nodes(&self, mesh: Mesh, tables: &mut Tables, out: &mut [u8]) -> Written {
         tuned::write_nodes(mesh, tables, out)
     }
+
     fn merge(&self, first: &[u8], second: &[u8], out: &mut [u8]) -> Written {
         tuned::merge(first, second, out)
     }

@@ -1,6 +1,6 @@
 #![allow(dead_code)]
 
-use plain::{Inserted, Mesh, Owned, Position};
+use plain::{Inserted, Looked, Mesh, Owned, Position};
 
 /// A record with tables of its own.
 #[derive(Clone, Debug, PartialEq, Eq)]
@@ -35,6 +35,19 @@ impl Kit {
         self.tables.work.fill(0x5555);
         let answer = plain::insert_answers(self.mesh, &mut self.tables.lend(), answers, p);
         self.take(answer)
+    }
+
+    pub fn insert_marked(&mut self, marks: &[u8], p: Position) -> Inserted {
+        self.tables.work.fill(0x5555);
+        let answer = plain::insert_marked(self.mesh, &mut self.tables.lend(), marks, p);
+        self.take(answer)
+    }
+
+    pub fn look(&mut self, marks: &mut [u8], p: Position) -> Looked {
+        self.tables.work.fill(0xAAAA);
+        let answer = plain::look(self.mesh, &mut self.tables.lend(), marks, p);
+        assert!(self.tables.work.iter().all(|&w| w == 0));
+        answer
     }
 
     fn take(&mut self, answer: Inserted) -> Inserted {

@@ -1,0 +1,2 @@
+-- Looks in small boxes.
+pub mod Look

@@ -1,0 +1,65 @@
+//! Random looks, and marks to insert with.
+
+use plain::random::Random;
+use plain::{Mesh, Owned, Position, RightRules, Rules, CELL_LIMIT, POINT_LIMIT};
+use wrong::{MarksBeforeCorrection, MarksOfTheBase};
+
+use crate::call::Call;
+
+/// A look with marks of any content: as many as cells, more, one too few, fewer or none.
+pub fn look(random: &mut Random, mesh: Mesh, p: Position) -> Call {
+    let cells = mesh.cells as usize;
+    let (more, fewer) = (cells + 1 + random.index(9), random.index(cells));
+    let too_few = cells.saturating_sub(1);
+    let count = random.pick(&[cells, cells, cells, more, more, too_few, fewer, 0]);
+    let bits = random.pick(&[1, 255]);
+    let marks = (0..count).map(|_| random.bits() as u8 & bits);
+    Call::Look(marks.collect(), p)
+}
+
+/// An insertion with marks: those of a look at the node, of a look at another one, of a wrong look, or with a byte changed; and of
+/// these as many as cells, more, one too few, or none.
+pub fn insert_marked(
+    random: &mut Random,
+    mesh: Mesh,
+    tables: &Owned,
+    [p, other]: [Position; 2],
+) -> Call {
+    let looked = |rules, p| marks(rules, mesh, tables, p);
+    let mut marks = match random.below(16) {
+        0 => vec![0; mesh.cells as usize],
+        1..3 => looked(&RightRules, other),
+        3 => looked(&MarksBeforeCorrection, p),
+        4 => looked(&MarksOfTheBase, p),
+        5..8 => changed(random, looked(&RightRules, p)),
+        _ => looked(&RightRules, p),
+    };
+    match random.below(12) {
+        0 => marks.truncate(marks.len().saturating_sub(1)),
+        1 => marks.clear(),
+        2..5 => marks.extend((0..1 + random.index(9)).map(|_| random.bits() as u8)),
+        _ => {}
+    }
+    Call::InsertMarked(marks, p)
+}
+
+/// The marks of a look, as if there were room for any node; all 0 where it is refused.
+fn marks(rules: &dyn Rules, mesh: Mesh, tables: &Owned, p: Position) -> Vec<u8> {
+    let mut roomy = tables.clone();
+    roomy.points.resize(3 * POINT_LIMIT, 0);
+    roomy.corners.resize(4 * CELL_LIMIT, 0);
+    roomy.neighbours.resize(4 * CELL_LIMIT, 0);
+    roomy.work.resize(3 * CELL_LIMIT, 0);
+    let mut marks = vec![0; mesh.cells as usize];
+    plain::look_with(rules, mesh, &mut roomy.lend(), &mut marks, p);
+    marks
+}
+
+/// One byte is another: a 0 for a 1, a 1 for a 0, or neither of the two.
+fn changed(random: &mut Random, mut marks: Vec<u8>) -> Vec<u8> {
+    let (last, any) = (marks.len().saturating_sub(1), random.index(marks.len()));
+    if let Some(mark) = marks.get_mut(random.pick(&[0, last, any, any])) {
+        *mark ^= random.pick(&[1, 1, 2, 3, 254, 255]);
+    }
+    marks
+}

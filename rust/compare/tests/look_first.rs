@@ -1,0 +1,269 @@
+//! What is proved of looks in crates/look_first, looked at on each build by itself: a look changes nothing but marks, and marks
+//! the cells that the node takes the place of; with its marks the insertion is the plain one, and with others it is refused.
+
+use std::collections::{BTreeMap, BTreeSet};
+
+use compare::nodes::{self, Spread};
+use compare::{Builder, Plain, Tuned};
+use plain::loaded::Loaded;
+use plain::random::Random;
+use plain::{Answers, Inserted, Looked, Mesh, Owned, Position, RightRules, Rules};
+
+/// The mesh that a build makes.
+struct Bed<'a> {
+    build: &'a dyn Builder,
+    sides: Position,
+    spread: Spread,
+    mesh: Mesh,
+    tables: Owned,
+}
+
+/// An insertion's answer, and what it left.
+type Insertion = (Inserted, Owned);
+
+impl Bed<'_> {
+    /// In some of them points run out, in others cells.
+    fn started<'a>(build: &'a dyn Builder, random: &mut Random) -> Bed<'a> {
+        let sides = nodes::sides(random);
+        let mut tables = Owned::with_room(20, random.pick(&[40, 90]));
+        let mesh = build.start(sides, &mut tables.lend()).mesh;
+        Bed {
+            build,
+            sides,
+            spread: nodes::spread(random),
+            mesh,
+            tables,
+        }
+    }
+
+    /// Now and then one that is refused.
+    fn node(&self, random: &mut Random) -> Position {
+        let points = &self.tables.points[..3 * self.mesh.points as usize];
+        nodes::node(random, self.sides, self.spread, points)
+    }
+
+    /// With a work area that each call has to clear.
+    fn lent(&self) -> Owned {
+        let mut tables = self.tables.clone();
+        tables.work.fill(0x7777);
+        tables
+    }
+
+    fn insert(&self, answers: Answers, p: Position) -> Insertion {
+        let mut left = self.lent();
+        let answer = self.build.insert(self.mesh, &mut left.lend(), answers, p);
+        (answer, left)
+    }
+
+    fn insert_marked(&self, marks: &[u8], p: Position) -> Insertion {
+        let mut left = self.lent();
+        let answer = self
+            .build
+            .insert_marked(self.mesh, &mut left.lend(), marks, p);
+        (answer, left)
+    }
+
+    fn look(&self, before: Vec<u8>, p: Position) -> Look {
+        let (mut marks, mut left) = (before.clone(), self.lent());
+        let answer = self.build.look(self.mesh, &mut left.lend(), &mut marks, p);
+        Look {
+            p,
+            answer,
+            before,
+            marks,
+            left,
+            plainly: self.insert(Answers::SphereTest, p),
+        }
+    }
+
+    /// Goes on with what an insertion left.
+    fn take(&mut self, (answer, left): Insertion) {
+        self.mesh = answer.mesh;
+        self.tables = left;
+    }
+}
+
+/// The cells by their corners, each sorted upward.
+fn cells(mesh: Mesh, tables: &Owned) -> Vec<[u16; 4]> {
+    let mesh = Loaded::load(mesh, &tables.clone().lend());
+    let cells = mesh.cells.iter().enumerate();
+    cells
+        .map(|(c, cell)| RightRules.order(c, cell.corners))
+        .collect()
+}
+
+/// A look at a node, with the marks before it and after it, and the plain insertion beside it.
+struct Look {
+    p: Position,
+    answer: Looked,
+    before: Vec<u8>,
+    marks: Vec<u8>,
+    left: Owned,
+    plainly: Insertion,
+}
+
+impl Look {
+    fn is_accepted(&self) -> bool {
+        self.answer.refusal == 0
+    }
+}
+
+/// Neither the tables, nor marks beyond the cells, nor any mark where it is refused.
+fn changes_nothing_else(bed: &Bed, look: &Look, _: &mut Random) -> bool {
+    let cells = match look.is_accepted() {
+        true => bed.mesh.cells as usize,
+        false => 0,
+    };
+    look.left == bed.tables && look.marks[cells..] == look.before[cells..]
+}
+
+/// The same report, or refused with the same number.
+fn answers_the_report(_: &Bed, look: &Look, _: &mut Random) -> bool {
+    let report = look.plainly.0.report();
+    look.answer == report && look.answer.least.to_bits() == report.least.to_bits()
+}
+
+/// With too few it is refused 10, unless the insertion is refused; and nothing changes.
+fn needs_a_mark_a_cell(bed: &Bed, look: &Look, random: &mut Random) -> bool {
+    let count = random.index(bed.mesh.cells as usize);
+    let short = bed.look(look.before[..count].to_vec(), look.p);
+    let refusal = match look.is_accepted() {
+        true => 10,
+        false => look.answer.refusal,
+    };
+    short.answer == Looked::refused(refusal)
+        && short.marks == short.before
+        && short.left == bed.tables
+}
+
+/// With the marks of the look.
+fn goes_in_plainly(bed: &Bed, look: &Look, _: &mut Random) -> bool {
+    !look.is_accepted() || bed.insert_marked(&look.marks, look.p) == look.plainly
+}
+
+/// One byte is another, or they are too few: 14, and nothing changes.
+fn refuses_other_marks(bed: &Bed, look: &Look, random: &mut Random) -> bool {
+    let mut marks = look.marks.clone();
+    let place = random.index(bed.mesh.cells as usize);
+    match random.one_in(4) {
+        true => marks.truncate(place),
+        false => marks[place] ^= random.pick(&[1, 2, 3, 254]),
+    }
+    let refused = Inserted::refused(14, bed.mesh);
+    !look.is_accepted() || bed.insert_marked(&marks, look.p) == (refused, bed.tables.clone())
+}
+
+/// Whatever the marks, an insertion is refused where the plain one is, with the same number.
+fn is_refused_alike(bed: &Bed, look: &Look, random: &mut Random) -> bool {
+    let marks = vec![random.below(3) as u8; random.pick(&[0, bed.mesh.cells as usize])];
+    look.is_accepted() || bed.insert_marked(&marks, look.p) == look.plainly
+}
+
+/// Of the corners of a marked cell no cell is left, and of those of another one there is.
+fn marks_what_is_replaced(bed: &Bed, look: &Look, _: &mut Random) -> bool {
+    let (answer, tables) = &look.plainly;
+    let left: BTreeSet<_> = cells(answer.mesh, tables).into_iter().collect();
+    let before = cells(bed.mesh, &bed.tables);
+    let mut marked = before.iter().zip(&look.marks);
+    !look.is_accepted() || marked.all(|(cell, &mark)| mark == u8::from(!left.contains(cell)))
+}
+
+type Law = fn(&Bed, &Look, &mut Random) -> bool;
+
+const LAWS: [(&str, Law); 7] = [
+    ("changes nothing else", changes_nothing_else),
+    ("answers the report", answers_the_report),
+    ("needs a mark a cell", needs_a_mark_a_cell),
+    ("goes in plainly", goes_in_plainly),
+    ("refuses other marks", refuses_other_marks),
+    ("is refused alike", is_refused_alike),
+    ("marks what is replaced", marks_what_is_replaced),
+];
+
+#[rustfmt::skip]
+fn situations(bed: &Bed, look: &Look) -> [(&'static str, bool); 9] {
+    let Looked { refusal, before, after, .. } = look.answer;
+    let cells = bed.mesh.cells;
+    [
+        ("cells are removed by the correction", before > after),
+        ("nothing is removed", refusal == 0 && before == after),
+        ("every cell is replaced", after == cells),
+        ("few cells are replaced", refusal == 0 && 3 * after < cells),
+        ("marks beyond the cells", refusal == 0 && look.marks.len() > cells as usize),
+        ("outside", refusal == 4),
+        ("taken", refusal == 5),
+        ("points are full", refusal == 6),
+        ("cells are full", refusal == 8),
+    ]
+}
+
+type Counts = BTreeMap<&'static str, u64>;
+
+/// Looks at a node, and says which law is broken; then a node goes in, this one or another.
+fn look_first(bed: &mut Bed, random: &mut Random, counts: &mut Counts) -> Result<(), &'static str> {
+    let p = bed.node(random);
+    let count = bed.mesh.cells as usize + random.index(4);
+    let before = (0..count).map(|_| random.bits() as u8).collect();
+    let look = bed.look(before, p);
+    for (law, holds) in LAWS {
+        if !holds(bed, &look, random) {
+            return Err(law);
+        }
+    }
+    for (situation, occurs) in situations(bed, &look) {
+        *counts.entry(situation).or_default() += u64::from(occurs);
+    }
+    let answers = nodes::answers(random, bed.mesh.cells as usize);
+    let next = match random.below(3) {
+        0 => bed.insert_marked(&look.marks, p),
+        _ => bed.insert(Answers::Given(&answers), bed.node(random)),
+    };
+    bed.take(next);
+    Ok(())
+}
+
+/// Many looks, or the law that is broken first.
+fn many_looks(build: &dyn Builder) -> Result<Counts, &'static str> {
+    let mut counts = Counts::new();
+    for seed in 0..150 {
+        let mut random = Random::new(seed);
+        let mut bed = Bed::started(build, &mut random);
+        for _ in 0..16 {
+            look_first(&mut bed, &mut random, &mut counts)?;
+        }
+    }
+    Ok(counts)
+}
+
+fn holds_of(build: &dyn Builder) {
+    let counts = many_looks(build).expect("every law");
+    let missing: Vec<_> = counts.iter().filter(|(_, &count)| count == 0).collect();
+    assert!(missing.is_empty() && counts.len() == 9, "{missing:?}");
+}
+
+#[test]
+fn it_holds_of_plain_and_tuned() {
+    holds_of(&Plain::RIGHT);
+    holds_of(&Tuned);
+}
+
+#[cfg(feature = "archive")]
+#[test]
+fn it_holds_of_the_archive() {
+    holds_of(&compare::Archive);
+}
+
+#[test]
+fn which_law_each_wrong_build_breaks() {
+    for (name, law) in [
+        // The insertion goes by the same marks, so that look and insertion agree.
+        ("marks-before-correction", "marks what is replaced"),
+        ("marks-of-the-base", "marks what is replaced"),
+        ("marks-cleared-past-the-count", "changes nothing else"),
+        ("any-nonzero-mark", "refuses other marks"),
+        ("marks-first", "is refused alike"),
+    ] {
+        let build = compare::named(name).expect("a build");
+        assert_eq!(many_looks(build.as_ref()).err(), Some(law), "{name}");
+    }
+}

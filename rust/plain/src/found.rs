@@ -1,0 +1,71 @@
+//! What an insertion goes by: tests 4 to 8, the corrected cavity and the report. A look ends here.
+
+use crate::calls::{in_box, Looked, Position, Tables};
+use crate::cavity::{Answers, Cavity};
+use crate::loaded::Loaded;
+use crate::rules::Rules;
+
+/// A node's corrected cavity, and what else its report and marks need.
+pub struct Found<'a> {
+    pub cavity: Cavity<'a>,
+    /// The cavity before its correction.
+    pub grown: Vec<bool>,
+    pub made: usize,
+    pub least: f64,
+}
+
+/// Tests 4 to 7, and the cavity, in tables that pass the mesh check.
+pub fn find<'a>(
+    rules: &'a dyn Rules,
+    mesh: &'a Loaded,
+    tables: &Tables,
+    answers: Answers,
+    p: Position,
+) -> Result<Found<'a>, u8> {
+    if !in_box(mesh.sides, p) {
+        return Err(4);
+    }
+    if mesh.points.contains(&p) {
+        return Err(5);
+    }
+    if mesh.points.len() == tables.point_capacity() {
+        return Err(6);
+    }
+    let mut cavity = Cavity::base(rules, mesh, p);
+    if cavity.cells().is_empty() {
+        return Err(7);
+    }
+    cavity.grow(answers);
+    let grown = cavity.in_cavity.clone();
+    let least = cavity.least(answers);
+    rules.correct(&mut cavity);
+    Ok(Found {
+        made: cavity.starred_faces().len(),
+        cavity,
+        grown,
+        least,
+    })
+}
+
+impl Found<'_> {
+    /// Test 8: "old count plus new cells exceeds cell capacity".
+    pub fn is_too_large(&self, tables: &Tables) -> bool {
+        self.cavity.mesh.cells.len() + self.made > tables.cell_capacity()
+    }
+
+    /// Which cells a look marks.
+    pub fn replaced(&self) -> Vec<bool> {
+        self.cavity.rules.replaced(&self.grown, &self.cavity)
+    }
+
+    pub fn report(&self) -> Looked {
+        Looked {
+            refusal: 0,
+            point: self.cavity.mesh.points.len() as u32,
+            before: self.grown.iter().filter(|&&yes| yes).count() as u32,
+            after: self.cavity.cells().len() as u32,
+            made: self.made as u32,
+            least: self.least,
+        }
+    }
+}

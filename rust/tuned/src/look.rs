@@ -1,0 +1,42 @@
+//! The look, and its marks.
+
+use plain::{Answers, Looked, Mesh, Position, Tables};
+
+use crate::cavity::Scratch;
+use crate::check::mesh_refusal;
+use crate::insertion::find;
+
+/// "A look answers the report and marks each cell of the corrected spot with byte 1, all other cells with 0."
+pub fn look(mesh: Mesh, tables: &mut Tables, marks: &mut [u8], p: Position) -> Looked {
+    tables.work.fill(0);
+    let refusal = mesh_refusal(mesh, tables, usize::MAX);
+    if refusal != 0 {
+        return Looked::refused(refusal);
+    }
+    let answer = look_in_mesh(mesh, tables, marks, p);
+    tables.work.fill(0);
+    answer.unwrap_or_else(Looked::refused)
+}
+
+fn look_in_mesh(
+    mesh: Mesh,
+    tables: &mut Tables,
+    marks: &mut [u8],
+    p: Position,
+) -> Result<Looked, u8> {
+    let corrected = find(mesh, tables, &mut Scratch::new(), Answers::SphereTest, p)?;
+    let marks = marks.get_mut(..mesh.cells as usize).ok_or(10)?;
+    marks.fill(0);
+    for &c in corrected.cells(tables) {
+        marks[c as usize] = 1;
+    }
+    Ok(corrected.report(mesh))
+}
+
+/// Would a look at this cavity, in a mesh of so many cells, write these marks? The cavity's are 1, and no more are nonzero.
+pub fn are_those_of(marks: &[u8], cells: usize, cavity: &[u16]) -> bool {
+    marks.get(..cells).is_some_and(|marks| {
+        cavity.iter().all(|&c| marks[c as usize] == 1)
+            && marks.iter().filter(|&&mark| mark != 0).count() == cavity.len()
+    })
+}
