@@ -7,7 +7,7 @@ use compare::Builder;
 use plain::loaded::Loaded;
 use plain::nodefile::encode;
 use plain::random::Random;
-use plain::{Mesh, Owned, Position, NODE_LIMIT};
+use plain::{Answers, Inserted, Mesh, Owned, Position, NODE_LIMIT};
 
 use crate::nodes::{self, Set};
 
@@ -35,7 +35,7 @@ const fn entry(
 }
 
 #[rustfmt::skip]
-pub const ENTRIES: [Entry; 25] = [
+pub const ENTRIES: [Entry; 28] = [
     entry("random", "620 random nodes", Some(2.0), || list(nodes::random(620))),
     entry("lattice", "lattice 9×9×9", Some(2.0), || list(nodes::lattice(9))),
     entry("lattice-8", "lattice 9×9×9 in a cube of side 8", Some(2.0), || list(nodes::small_lattice(9))),
@@ -49,6 +49,9 @@ pub const ENTRIES: [Entry; 25] = [
     entry("locate", "locate", Some(2.0), || locate(anywhere)),
     entry("locate-0", "locate inside cell 0", Some(2.0), || locate(inside_cell_0)),
     entry("locate-point", "locate at the point of most cells", Some(2.0), || locate(at_a_point)),
+    entry("look", "look", Some(2.0), look),
+    entry("insert", "insert a node", Some(2.0), || insert(false)),
+    entry("insert-marked", "insert a node with the marks of a look", Some(2.0), || insert(true)),
     entry("read", "read a node file", None, || call(Kind::Read)),
     entry("write", "write a node file", None, || call(Kind::Write)),
     entry("merge-random", "merge 508 and 508 random nodes", None, || merge(nodes::random(1_016), &HALVES)),
@@ -103,6 +106,8 @@ pub struct Work {
     refusal: u8,
     mesh: Mesh,
     tables: Owned,
+    /// A copy, for nodes that are all to go into the same mesh.
+    copy: Owned,
     numbers: Vec<u32>,
     bytes: Vec<u8>,
 }
@@ -112,6 +117,10 @@ enum Kind {
     List(Set),
     Check,
     Locate(Vec<Position>),
+    /// Marks go to the bytes.
+    Look(Vec<Position>),
+    /// Nodes into the same mesh, each with the marks of a look at it, or none.
+    Insert(Vec<(Position, Option<Vec<u8>>)>),
     Read,
     Write,
     /// Two files.
@@ -120,7 +129,7 @@ enum Kind {
 
 /// What a pass leaves, to be compared.
 #[derive(PartialEq)]
-pub struct Left(Answer, Owned, Vec<u32>, Vec<u8>);
+pub struct Left(Answer, [Owned; 2], Vec<u32>, Vec<u8>);
 
 fn list(set: Set) -> Work {
     Work {
@@ -131,6 +140,7 @@ fn list(set: Set) -> Work {
         refusal: 0,
         mesh: Mesh::default(),
         tables: Owned::largest(),
+        copy: Owned::with_room(0, 0),
         numbers: vec![],
         bytes: vec![],
     }
@@ -149,6 +159,7 @@ fn call(kind: Kind) -> Work {
         kind,
         refusal: 0,
         mesh,
+        copy: tables.clone(),
         tables,
         numbers: vec![0; 3 * NODE_LIMIT],
         bytes: encode(sides, &nodes),
@@ -165,6 +176,7 @@ fn merge(Set { sides, nodes }: Set, files: &Files) -> Work {
         refusal: files.refusal,
         mesh: Mesh::default(),
         tables: Owned::with_room(0, 0),
+        copy: Owned::with_room(0, 0),
         numbers: vec![],
         bytes: vec![0; 12 * NODE_LIMIT + 20],
     }
@@ -175,6 +187,31 @@ fn locate(positions: fn(&Loaded) -> Vec<Position>) -> Work {
     let positions = positions(&Loaded::load(work.mesh, &work.tables.lend()));
     work.units = positions.len();
     work.kind = Kind::Locate(positions);
+    work
+}
+
+fn look() -> Work {
+    let mut work = call(Kind::Check);
+    let nodes = anywhere(&Loaded::load(work.mesh, &work.tables.lend()));
+    work.units = nodes.len();
+    work.bytes = vec![9; work.mesh.cells as usize];
+    work.kind = Kind::Look(nodes);
+    work
+}
+
+/// The same nodes.
+fn insert(with_marks: bool) -> Work {
+    let mut work = look();
+    let Kind::Look(nodes) = &work.kind else {
+        return work;
+    };
+    let mut looked = |p: Position| {
+        let mut marks = vec![0; work.mesh.cells as usize];
+        tuned::look(work.mesh, &mut work.tables.lend(), &mut marks, p);
+        marks
+    };
+    let nodes = nodes.iter().map(|&p| (p, with_marks.then(|| looked(p))));
+    work.kind = Kind::Insert(nodes.collect());
     work
 }
 
@@ -195,6 +232,19 @@ fn at_a_point(mesh: &Loaded) -> Vec<Position> {
     let cells = |point: usize| corners().filter(|&corner| corner as usize == point).count();
     let most = (0..mesh.points.len()).max_by_key(|&point| cells(point));
     most.map(|point| mesh.points[point]).into_iter().collect()
+}
+
+fn insert_into(
+    build: &dyn Builder,
+    mesh: Mesh,
+    tables: &mut Owned,
+    p: Position,
+    marks: &Option<Vec<u8>>,
+) -> Inserted {
+    match marks {
+        None => build.insert(mesh, &mut tables.lend(), Answers::SphereTest, p),
+        Some(marks) => build.insert_marked(mesh, &mut tables.lend(), marks, p),
+    }
 }
 
 impl Work {
@@ -221,6 +271,21 @@ impl Work {
                 }
                 last
             }
+            Kind::Look(nodes) => {
+                let mut last = Answer::Checked(false);
+                for &p in nodes {
+                    last = Answer::Looked(build.look(mesh, tables, &mut self.bytes, p));
+                }
+                last
+            }
+            Kind::Insert(nodes) => {
+                let mut last = Answer::Checked(false);
+                for (p, marks) in nodes {
+                    self.copy.clone_from(&self.tables);
+                    last = Answer::Inserted(insert_into(build, mesh, &mut self.copy, *p, marks));
+                }
+                last
+            }
             Kind::Read => Answer::Read(build.read_nodes(&self.bytes, &mut self.numbers)),
             Kind::Write => Answer::Written(build.write_nodes(mesh, tables, &mut self.bytes)),
             Kind::Merge([first, second]) => {
@@ -239,7 +304,7 @@ impl Work {
         let answer = self.pass(build);
         Left(
             answer,
-            self.tables.clone(),
+            [self.tables.clone(), self.copy.clone()],
             self.numbers.clone(),
             self.bytes.clone(),
         )

@@ -1,5 +1,7 @@
 //! The points and cells that are shown.
 
+use std::collections::BTreeSet;
+
 use gantry::{volume6, Cell, Mesh, Position};
 
 #[derive(Debug, PartialEq, Eq)]
@@ -18,6 +20,16 @@ impl From<&Mesh> for Grid {
             cells: mesh.cells().collect(),
         }
     }
+}
+
+/// Of some cells: two points each, the lower number first.
+pub fn edges(cells: impl IntoIterator<Item = Cell>) -> BTreeSet<[usize; 2]> {
+    let pairs = [(0, 1), (0, 2), (0, 3), (1, 2), (1, 3), (2, 3)];
+    let edges = cells.into_iter().flat_map(|cell| {
+        let c = cell.corners;
+        pairs.map(|(i, j)| [c[i].min(c[j]), c[i].max(c[j])])
+    });
+    edges.collect()
 }
 
 impl Grid {

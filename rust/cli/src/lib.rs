@@ -1,6 +1,6 @@
-//! The command `gantry`. The cells, the mesh check, the located cell, the volumes and the node files that are read, merged
-//! and written come from the proved archive; reading text and listings, explaining a check, naming the cells that hold a
-//! position and drawing are this crate's own.
+//! The command `gantry`. The cells, the mesh check, the located cell, the cells that a node would replace, the volumes and
+//! the node files that are read, merged and written come from the proved archive; reading text and listings, explaining a
+//! check, naming the cells that hold a position and drawing are this crate's own.
 
 pub mod check;
 pub mod commands;
@@ -9,6 +9,7 @@ pub mod grid;
 pub mod input;
 pub mod labels;
 pub mod listing;
+pub mod look;
 pub mod output;
 pub mod survey;
 pub mod svg;
@@ -35,6 +36,14 @@ impl Done {
         Done {
             output: text.into_bytes(),
             ..Done::default()
+        }
+    }
+
+    /// With nothing to write, so that a file that was named stays as it was.
+    fn failure(self) -> Failure {
+        Failure::Input {
+            messages: [self.notes, self.complaints].concat(),
+            refusal: None,
         }
     }
 }

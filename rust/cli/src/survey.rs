@@ -116,18 +116,10 @@ impl Survey {
     /// Which node did not go in, and why.
     pub fn complaint(&self, Built { mesh, stopped }: &Built) -> Option<String> {
         let Stopped { place, refusal } = (*stopped)?;
-        let cells = mesh.cells().len();
-        let why = match refusal {
-            Refusal::Outside => format!("the box is {}", spaced(self.sides)),
-            Refusal::Taken => taken_by(mesh, self.nodes[place]),
-            Refusal::CellsFull => {
-                let limit = grouped(CELL_LIMIT);
-                let before = counted(place, "node");
-                format!("{cells} cells and the new ones exceed {limit}; {before} went in: use fewer, or divide the box")
-            }
-            _ => refusal.when().to_string(),
-        };
-        let (node, why) = (self.node_at(place), because(refusal, &why));
+        let (node, why) = (
+            self.node_at(place),
+            refused(mesh, self.nodes[place], refusal),
+        );
         Some(format!("{node} did not go in: {why}"))
     }
 
@@ -145,6 +137,26 @@ fn encode(sides: Position, nodes: &[Position]) -> Vec<u8> {
     let numbers = nodes.as_flattened().iter().copied();
     let trailer = sides.into_iter().chain([count, 12 * count]);
     numbers.chain(trailer).flat_map(u32::to_le_bytes).collect()
+}
+
+/// Why a mesh refuses a node or a position, with its own numbers.
+pub fn refused(mesh: &Mesh, p: Position, refusal: Refusal) -> String {
+    let (points, cells) = (mesh.points().len(), mesh.cells().len());
+    let why = match refusal {
+        Refusal::Outside => format!("the box is {}", spaced(mesh.sides())),
+        Refusal::Taken => taken_by(mesh, p),
+        Refusal::PointsFull => {
+            let points = grouped(points);
+            format!("there are {points} points, and that is the most: use fewer nodes, or divide the box")
+        }
+        Refusal::CellsFull => {
+            let limit = grouped(CELL_LIMIT);
+            let nodes = counted(points - 8, "node");
+            format!("{cells} cells and the new ones exceed {limit}; {nodes} went in: use fewer, or divide the box")
+        }
+        _ => refusal.when().to_string(),
+    };
+    because(refusal, &why)
 }
 
 fn taken_by(mesh: &Mesh, node: Position) -> String {

@@ -1,14 +1,16 @@
 //! A grid as a picture: the edges of its cells in an axonometric view, the near ones over the far ones, with the numbers of
-//! points and cells where there are few.
+//! points and cells where there are few. With a look, the cells that its node would replace stand out.
 
-use std::collections::BTreeSet;
+mod replaced;
+
 use std::fmt::Write;
 
 use gantry::Position;
 
 use crate::counted;
-use crate::grid::Grid;
+use crate::grid::{edges, Grid};
 use crate::labels::{Page, Point2, Rectangle};
+use crate::look::Replacing;
 
 /// Pixels of the picture's longer side, without the margin, for few points.
 const SIZE: f64 = 440.0;
@@ -23,9 +25,14 @@ const OPEN_END: f64 = 14.0;
 const LEADER: f64 = 16.0;
 /// The longest side is drawn at most so many times as long as another.
 const SLENDER: f64 = 4.0;
+/// How much paler the other edges and points are where some cells stand out.
+const PALENESS: f64 = 0.4;
+const PALE_DOT: &str = " fill-opacity=\"0.6\"";
 /// Points and cells are numbered where there are at most so many.
 pub const NUMBERED_POINTS: usize = 64;
 pub const NUMBERED_CELLS: usize = 24;
+/// The cells that the node of a look would replace, which lie close together.
+pub const NUMBERED_REPLACED: usize = 12;
 
 const BOX_COLOUR: &str = "#102a57";
 const NODE_COLOUR: &str = "#b4410f";
@@ -92,6 +99,20 @@ struct View {
     height: f64,
 }
 
+impl View {
+    fn places<const COUNT: usize>(&self, points: [usize; COUNT]) -> [Point2; COUNT] {
+        points.map(|point| self.points[point].at)
+    }
+
+    fn middle<const COUNT: usize>(&self, points: [usize; COUNT]) -> Seen {
+        middle(&points.map(|point| self.points[point]))
+    }
+
+    fn nearness<const COUNT: usize>(&self, points: [usize; COUNT]) -> f64 {
+        self.middle(points).near
+    }
+}
+
 /// The points moved and scaled to the page, nearness to 0 for the farthest and 1 for the nearest.
 fn view(points: &[Position], stretch: Vector) -> View {
     let seen: Vec<Seen> = points.iter().map(|&p| seen(p, stretch)).collect();
@@ -122,10 +143,19 @@ fn between(from: Point2, to: Point2, part: f64) -> Point2 {
     }
 }
 
-/// Between a far and a near colour.
-fn colour(near: f64) -> String {
-    let mix = |far: f64, close: f64| (far + (close - far) * near).round() as u8;
-    let [red, green, blue] = [mix(198.0, 16.0), mix(210.0, 42.0), mix(222.0, 87.0)];
+type Colour = [f64; 3];
+
+const FAR: Colour = [198.0, 210.0, 222.0];
+const NEAR: Colour = [16.0, 42.0, 87.0];
+const WHITE: Colour = [255.0; 3];
+
+/// A part of the way from one colour to the other.
+fn mixed(from: Colour, to: Colour, part: f64) -> Colour {
+    [0, 1, 2].map(|k| from[k] + (to[k] - from[k]) * part)
+}
+
+fn written(colour: Colour) -> String {
+    let [red, green, blue] = colour.map(|shade| shade.round() as u8);
     format!("#{red:02x}{green:02x}{blue:02x}")
 }
 
@@ -135,63 +165,99 @@ fn is_on_box_edge(sides: Position, [p, q]: [Position; 2]) -> bool {
     (0..3).filter(on_wall).count() >= 2
 }
 
-fn point_colour(point: usize) -> &'static str {
-    if point < 8 {
-        BOX_COLOUR
-    } else {
-        NODE_COLOUR
-    }
-}
-
-fn radius(point: Seen) -> f64 {
-    2.0 + 1.5 * point.near
-}
-
 struct Picture<'a> {
     grid: &'a Grid,
+    replacing: Option<&'a Replacing>,
+    /// The points, and then the node of a look: it has the number that it would get.
     view: View,
+    /// The far ones first.
     edges: Vec<[usize; 2]>,
     text: String,
     /// Labels that there was no place for.
     left_out: usize,
 }
 
-impl Picture<'_> {
-    fn line(&mut self, [a, b]: [Point2; 2], stroke: &str, width: f64) {
+impl<'a> Picture<'a> {
+    fn new(grid: &'a Grid, replacing: Option<&'a Replacing>) -> Picture<'a> {
+        let node = replacing.map(|replacing| replacing.look.position());
+        let points: Vec<Position> = grid.points.iter().copied().chain(node).collect();
+        let view = view(&points, stretch(grid.sides));
+        let mut edges = Vec::from_iter(edges(grid.cells.iter().copied()));
+        edges.sort_by(|&a, &b| view.nearness(a).total_cmp(&view.nearness(b)));
+        Picture {
+            grid,
+            replacing,
+            view,
+            edges,
+            text: String::new(),
+            left_out: 0,
+        }
+    }
+
+    fn line(&mut self, ends: [Point2; 2], stroke: &str, width: f64) {
+        self.line_with(ends, stroke, width, "");
+    }
+
+    /// With a further attribute.
+    fn line_with(&mut self, [a, b]: [Point2; 2], stroke: &str, width: f64, more: &str) {
         let _ = writeln!(
             self.text,
-            "<line x1=\"{:.1}\" y1=\"{:.1}\" x2=\"{:.1}\" y2=\"{:.1}\" stroke=\"{stroke}\" stroke-width=\"{width:.2}\"/>",
+            "<line x1=\"{:.1}\" y1=\"{:.1}\" x2=\"{:.1}\" y2=\"{:.1}\" stroke=\"{stroke}\" stroke-width=\"{width:.2}\"{more}/>",
             a.x, a.y, b.x, b.y
         );
     }
 
-    fn draw_edge(&mut self, edge: [usize; 2]) {
-        let is_of_box = is_on_box_edge(self.grid.sides, edge.map(|point| self.grid.points[point]));
-        let ends = edge.map(|point| self.view.points[point]);
-        let near = middle(&ends).near;
-        let width = if is_of_box { 2.2 } else { 0.7 + 0.8 * near };
-        let [a, b] = ends.map(|end| end.at);
-        // A white border, so that what is nearer is seen to pass over; not at the ends, where other edges end too.
+    /// Of a line, so that what is nearer is seen to pass over; not at the ends, where other edges end too.
+    fn border(&mut self, [a, b]: [Point2; 2], stroke: &str, width: f64) {
         let length = (a.x - b.x).hypot(a.y - b.y);
         if length > 2.0 * OPEN_END {
             let part = OPEN_END / length;
-            self.line(
-                [between(a, b, part), between(b, a, part)],
-                "#ffffff",
-                width + 3.0,
-            );
+            self.line([between(a, b, part), between(b, a, part)], stroke, width);
         }
-        self.line([a, b], &colour(near), width);
+    }
+
+    fn draw_edge(&mut self, edge: [usize; 2]) {
+        let is_of_box = is_on_box_edge(self.grid.sides, edge.map(|point| self.grid.points[point]));
+        let near = self.view.nearness(edge);
+        let width = if is_of_box { 2.2 } else { 0.7 + 0.8 * near };
+        let ends = self.view.places(edge);
+        let paleness = self.replacing.map_or(0.0, |_| PALENESS);
+        let stroke = mixed(mixed(FAR, NEAR, near), WHITE, paleness);
+        self.border(ends, "#ffffff", width + 3.0);
+        self.line(ends, &written(stroke), width);
+    }
+
+    fn draw_edges(&mut self, edges: &[[usize; 2]]) {
+        for &edge in edges {
+            self.draw_edge(edge);
+        }
+    }
+
+    fn point_colour(&self, point: usize) -> &'static str {
+        match point {
+            0..8 => BOX_COLOUR,
+            _ if point < self.grid.points.len() => NODE_COLOUR,
+            _ => replaced::NODE_COLOUR,
+        }
+    }
+
+    fn radius(&self, point: usize) -> f64 {
+        match point < self.grid.points.len() {
+            true => 2.0 + 1.5 * self.view.points[point].near,
+            false => replaced::RING,
+        }
     }
 
     fn draw_point(&mut self, point: usize) {
-        let (seen, fill) = (self.view.points[point], point_colour(point));
+        let (at, fill) = (self.view.points[point].at, self.point_colour(point));
+        let is_pale = self.replacing.is_some_and(|r| !r.has_corner(point));
+        let more = if is_pale { PALE_DOT } else { "" };
         let _ = writeln!(
             self.text,
-            "<circle cx=\"{:.1}\" cy=\"{:.1}\" r=\"{:.1}\" fill=\"{fill}\"/>",
-            seen.at.x,
-            seen.at.y,
-            radius(seen)
+            "<circle cx=\"{:.1}\" cy=\"{:.1}\" r=\"{:.1}\" fill=\"{fill}\"{more}/>",
+            at.x,
+            at.y,
+            self.radius(point)
         );
     }
 
@@ -224,35 +290,55 @@ impl Picture<'_> {
             top: 2.0,
             bottom: height - 2.0,
         };
-        let dot =
-            |&point: &Seen| Rectangle::round(point.at, radius(point) + 1.0, radius(point) + 1.0);
-        let line = |edge: &[usize; 2]| edge.map(|point| points[point].at);
+        let dot = |point: usize| {
+            let half = self.radius(point) + 1.0;
+            Rectangle::round(points[point].at, half, half)
+        };
+        let line = |&edge: &[usize; 2]| self.view.places(edge);
         Page::new(
             edge,
-            points.iter().map(dot).collect(),
+            (0..points.len()).map(dot).collect(),
             self.edges.iter().map(line).collect(),
         )
     }
 
+    /// All points; where they are too many, with a look, the corners of the cells that would be replaced.
+    fn numbered_points(&self) -> Option<Vec<usize>> {
+        let points = self.grid.points.len();
+        let numbered = match self.replacing {
+            Some(r) if points > NUMBERED_POINTS => {
+                (0..points).filter(|&point| r.has_corner(point)).collect()
+            }
+            _ => (0..points).collect(),
+        };
+        at_most(NUMBERED_POINTS, numbered)
+    }
+
+    /// All cells, or with a look those that would be replaced.
+    fn numbered_cells(&self) -> Option<Vec<usize>> {
+        match self.replacing {
+            Some(replacing) => at_most(NUMBERED_REPLACED, replacing.look.cells().collect()),
+            None => at_most(NUMBERED_CELLS, (0..self.grid.cells.len()).collect()),
+        }
+    }
+
     fn draw_labels(&mut self) {
         let mut page = self.page();
-        let (points, cells) = (self.grid.points.len(), self.grid.cells.len());
-        if points <= NUMBERED_POINTS {
-            for point in 0..points {
-                let (seen, fill) = (self.view.points[point], point_colour(point));
-                let clear = radius(seen) + 0.7 * FONT;
-                self.label(&mut page, &point.to_string(), fill, seen.at, clear);
-            }
+        // The node of a look first, so that it has the best place.
+        let node = self.replacing.map(|r| r.look.report().point);
+        let points = self.numbered_points().unwrap_or_default();
+        for point in node.into_iter().chain(points) {
+            let (at, fill) = (self.view.points[point].at, self.point_colour(point));
+            let clear = self.radius(point) + 0.7 * FONT;
+            self.label(&mut page, &point.to_string(), fill, at, clear);
         }
-        if cells <= NUMBERED_CELLS {
-            for (number, cell) in self.grid.cells.iter().enumerate() {
-                let anchor = middle(&cell.corners.map(|point| self.view.points[point])).at;
-                self.label(&mut page, &number.to_string(), CELL_COLOUR, anchor, 0.0);
-            }
+        for number in self.numbered_cells().unwrap_or_default() {
+            let anchor = self.view.middle(self.grid.cells[number].corners).at;
+            self.label(&mut page, &number.to_string(), CELL_COLOUR, anchor, 0.0);
         }
         // The axes run from point 0 to points 1, 2 and 4.
         for (axis, end) in [("x", 1), ("y", 2), ("z", 4)] {
-            let [from, to] = [0, end].map(|point| self.view.points[point].at);
+            let [from, to] = self.view.places([0, end]);
             // Off the middle, where a node of a lattice may be.
             let anchor = between(from, to, 0.3);
             self.label(&mut page, axis, QUIET_COLOUR, anchor, 0.9 * FONT);
@@ -263,6 +349,7 @@ impl Picture<'_> {
     fn caption(&self, more: &[String]) -> Vec<String> {
         let mut lines = vec![self.grid.summary()];
         lines.extend_from_slice(more);
+        lines.extend(self.replacing.map(|_| replaced::COLOURS.to_string()));
         lines.push(self.colours());
         if self.left_out > 0 {
             lines.push(format!(
@@ -275,7 +362,10 @@ impl Picture<'_> {
 
     fn colours(&self) -> String {
         let mut words = "blue: box corners, brown: nodes".to_string();
-        if self.grid.cells.len() <= NUMBERED_CELLS {
+        if self.replacing.is_some() {
+            words += ", ring: the new one";
+        }
+        if self.numbered_cells().is_some() {
             words += ", green: cells";
         }
         if stretch(self.grid.sides) != [1.0; 3] {
@@ -304,36 +394,26 @@ fn escaped(words: &str) -> String {
         .replace('>', "&gt;")
 }
 
-impl Grid {
-    fn edges(&self) -> BTreeSet<[usize; 2]> {
-        let pairs = [(0, 1), (0, 2), (0, 3), (1, 2), (1, 3), (2, 3)];
-        let edges = self.cells.iter().flat_map(|cell| {
-            let c = cell.corners;
-            pairs.map(|(i, j)| [c[i].min(c[j]), c[i].max(c[j])])
-        });
-        edges.collect()
-    }
+fn at_most(limit: usize, numbers: Vec<usize>) -> Option<Vec<usize>> {
+    (numbers.len() <= limit).then_some(numbers)
+}
 
+impl Grid {
     /// With a caption that has the lines `more`.
-    pub fn to_svg(&self, more: &[String]) -> String {
-        let view = view(&self.points, stretch(self.sides));
-        let near = |edge: &[usize; 2]| middle(&edge.map(|point| view.points[point])).near;
-        let mut edges: Vec<[usize; 2]> = self.edges().into_iter().collect();
-        edges.sort_by(|a, b| near(a).total_cmp(&near(b)));
-        let mut picture = Picture {
-            grid: self,
-            view,
-            edges,
-            text: String::new(),
-            left_out: 0,
-        };
-        for edge in picture.edges.clone() {
-            picture.draw_edge(edge);
+    pub fn to_svg(&self, more: &[String], replacing: Option<&Replacing>) -> String {
+        let mut picture = Picture::new(self, replacing);
+        let edges = picture.edges.clone();
+        match replacing {
+            None => picture.draw_edges(&edges),
+            Some(replacing) => picture.draw_edges_and_replaced(&edges, replacing),
         }
         for point in 0..self.points.len() {
             picture.draw_point(point);
         }
         picture.draw_labels();
+        if let Some(replacing) = replacing {
+            picture.draw_node(replacing.look.report().point);
+        }
         let caption = picture.caption(more);
         picture.draw_caption(&caption);
         let longest = caption

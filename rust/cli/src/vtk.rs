@@ -2,6 +2,8 @@
 
 use std::fmt::{Display, Write};
 
+use gantry::Look;
+
 use crate::grid::Grid;
 use crate::spaced;
 
@@ -12,7 +14,8 @@ const TETRAHEDRON: u32 = 10;
 const TITLE_LIMIT: usize = 255;
 
 impl Grid {
-    pub fn to_vtk(&self, title: &str) -> String {
+    /// With a look, the cells that its node would replace have a scalar of their own.
+    pub fn to_vtk(&self, title: &str, look: Option<&Look>) -> String {
         let (points, cells) = (self.points.len(), self.cells.len());
         let title: String = title
             .chars()
@@ -43,6 +46,9 @@ impl Grid {
             "volume double",
             volumes().map(|volume| volume as f64 / 6.0),
         );
+        if let Some(look) = look {
+            scalars(&mut text, "replaced int", look.marks().iter());
+        }
         let _ = writeln!(text, "POINT_DATA {points}");
         scalars(&mut text, "point int", 0..points);
         text

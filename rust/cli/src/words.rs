@@ -1,11 +1,12 @@
 //! The words of the command line.
 
 use std::ffi::{OsStr, OsString};
+use std::num::{IntErrorKind, ParseIntError};
 use std::os::unix::ffi::OsStrExt;
 
 use gantry::{Position, SIDE_LIMIT};
 
-use crate::{grouped, printable, Failure};
+use crate::{counted, grouped, printable, Failure};
 
 /// An option that some command takes.
 #[derive(Clone, Copy, Debug, PartialEq, Eq)]
@@ -14,6 +15,7 @@ pub enum Choice {
     Listing,
     Sides,
     LeaveOut,
+    Look,
 }
 
 impl Choice {
@@ -23,6 +25,7 @@ impl Choice {
             "--listing" => Some(Choice::Listing),
             "--box" => Some(Choice::Sides),
             "--leave-out" => Some(Choice::LeaveOut),
+            "--look" => Some(Choice::Look),
             _ => None,
         }
     }
@@ -46,6 +49,10 @@ impl Choice {
                 "--leave-out",
                 "of text, leave out box corners and repeated nodes, and say which",
             ],
+            Choice::Look => [
+                "--look x y z",
+                "show the cells that a node there would replace; it does not go in",
+            ],
         }
     }
 }
@@ -58,6 +65,7 @@ pub struct Words {
     pub listing: Option<OsString>,
     pub sides: Option<Position>,
     pub leave_out: bool,
+    pub look: Option<[i64; 3]>,
 }
 
 impl Words {
@@ -97,11 +105,12 @@ impl Words {
         match choice {
             Choice::Output => self.output = Some(file(value)?),
             Choice::Listing => self.listing = Some(file(value)?),
-            Choice::Sides | Choice::LeaveOut if value.is_some() => {
+            Choice::Sides | Choice::LeaveOut | Choice::Look if value.is_some() => {
                 return Err(Failure::Usage(format!("{name} takes no =")));
             }
             Choice::Sides => self.sides = Some(sides(rest.take(3))?),
             Choice::LeaveOut => self.leave_out = true,
+            Choice::Look => self.look = Some(node(rest.take(3))?),
         }
         Ok(())
     }
@@ -148,15 +157,38 @@ fn sides<'a>(words: impl Iterator<Item = &'a OsString>) -> Result<Position, Fail
         })
 }
 
+fn node<'a>(words: impl Iterator<Item = &'a OsString>) -> Result<[i64; 3], Failure> {
+    let words: Vec<OsString> = words.cloned().collect();
+    numbers(&words).map_err(|failure| match failure {
+        Failure::Usage(why) => Failure::Usage(format!("--look wants a node x y z: {why}")),
+        failure => failure,
+    })
+}
+
+fn number(word: &OsString) -> Result<i64, Failure> {
+    let parsed = word.to_str().unwrap_or("").parse();
+    parsed.map_err(|error: ParseIntError| {
+        let why = match error.kind() {
+            IntErrorKind::PosOverflow | IntErrorKind::NegOverflow => {
+                let limit = grouped(SIDE_LIMIT as usize);
+                format!("is no coordinate: these are from 0 to {limit}")
+            }
+            _ => "is not a whole number".to_string(),
+        };
+        Failure::Usage(format!("{} {why}", printable(word)))
+    })
+}
+
 /// Words that are whole numbers, `COUNT` of them.
 pub fn numbers<const COUNT: usize>(words: &[OsString]) -> Result<[i64; COUNT], Failure> {
-    let number = |word: &OsString| {
-        let number = word.to_str().and_then(|word| word.parse().ok());
-        number.ok_or_else(|| Failure::Usage(format!("{} is not a whole number", printable(word))))
-    };
     let numbers: Vec<i64> = words.iter().map(number).collect::<Result<_, _>>()?;
-    let count = numbers.len();
+    let count = counted(numbers.len(), "number");
     numbers
         .try_into()
-        .map_err(|_| Failure::Usage(format!("{count} numbers, and {COUNT} are wanted")))
+        .map_err(|_| Failure::Usage(format!("{count}, and {COUNT} are wanted")))
+}
+
+/// A number that is no coordinate lies outside every box, as the greatest does.
+pub fn position(numbers: [i64; 3]) -> Position {
+    numbers.map(|number| u32::try_from(number).unwrap_or(u32::MAX))
 }

@@ -21,9 +21,27 @@ fn the_changelog_begins_with_this_version() {
 #[test]
 fn the_manual_s_box_is_the_command_s() {
     let mesh = Mesh::start(4, 4, 4).unwrap();
-    let picture = Grid::from(&mesh).to_svg(&[]);
+    let picture = Grid::from(&mesh).to_svg(&[], None);
     // Not assert_eq, which would print both.
     assert!(picture == include_str!("../../../docs/box.svg"));
+}
+
+/// README's pictures of the survey, without a look and with one.
+#[test]
+fn the_pictures_of_the_survey_are_the_command_s() {
+    const SURVEY: &str = concat!(
+        env!("CARGO_MANIFEST_DIR"),
+        "/../../examples/survey/tracker-steps.csv"
+    );
+    let drawn = |look: &str| {
+        let words = format!("svg --box 20000 12000 8000 --leave-out {look}");
+        let words = words.split_whitespace().chain([SURVEY]);
+        let line: Vec<OsString> = words.map(OsString::from).collect();
+        let (done, _) = commands::perform(&line).expect("a picture");
+        done.output
+    };
+    assert!(drawn("") == include_bytes!("../../../docs/mesh.svg"));
+    assert!(drawn("--look 15000 3000 5000") == include_bytes!("../../../docs/look.svg"));
 }
 
 fn help_of(name: &str) -> String {
@@ -53,8 +71,13 @@ fn the_manual_has_the_limits() {
     assert!(words.contains(&format!(
         "each fault has its line, up to {FAULTS_TOLD} of them"
     )));
+    let replaced = svg::NUMBERED_REPLACED;
+    assert!(words.contains(&format!(
+        "Cell numbers are then theirs alone, up to {replaced} such cells; of more than {points} points"
+    )));
     let help = help_of("svg");
     assert!(help.contains(&format!(
         "at\nmost {points}, cells where there are at most {cells}."
     )));
+    assert!(help.contains(&format!("where there are at most {replaced}")));
 }

@@ -10,8 +10,8 @@ use common::{Place, GANTRY};
 use plain::nodefile::encode;
 use plain::random::Random;
 
-const COMMANDS: [&str; 10] = [
-    "nodes", "text", "merge", "list", "check", "locate", "svg", "vtk", "volume", "sphere",
+const COMMANDS: [&str; 11] = [
+    "nodes", "text", "merge", "list", "check", "locate", "look", "svg", "vtk", "volume", "sphere",
 ];
 
 #[test]
@@ -52,6 +52,7 @@ fn wrong_words() {
         ("svg --listing - -", "gantry: svg: standard input can be only one of the two\nusage: gantry svg FILE [OPTIONS]"),
         ("locate a 1 2", "gantry: locate: 2 words after FILE, and a position has three, x y z\nusage: gantry locate FILE x y z [OPTIONS]"),
         ("locate a 1 2 z", "gantry: locate: z is not a whole number\nusage: gantry locate FILE x y z [OPTIONS]"),
+        ("locate a 1 2 9223372036854775808", "gantry: locate: 9223372036854775808 is no coordinate: these are from 0 to 131,072\nusage: gantry locate FILE x y z [OPTIONS]"),
     ];
     for (line, said) in cases {
         place.run(line, b"").refused(2, &format!("{said}\n"));
@@ -210,6 +211,9 @@ fn a_node_that_does_not_go_in() {
             "svg a.nodes",
             "vtk a.nodes",
             "locate a.nodes 1 2 3",
+            "look a.nodes 3 3 3",
+            "svg --look 3 3 3 a.nodes",
+            "vtk --look 3 3 3 a.nodes",
             "check a.nodes",
         ] {
             let shown = place.run(line, b"");
@@ -413,6 +417,11 @@ fn output_is_whole_or_lost() {
     assert_eq!(
         place.run("nodes -o old -", b"4 4 4\n9 9 9\n").status,
         Some(1)
+    );
+    let outside = place.run("locate -o old a 9 9 9", b"");
+    outside.refused(
+        1,
+        "gantry: position 9 9 9: refused 4 (outside): the box is 4 4 4\n",
     );
     assert_eq!(place.bytes("old"), b"as it was");
     place.run("text a -o old", b"").done();

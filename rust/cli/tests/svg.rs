@@ -1,13 +1,27 @@
+use std::collections::BTreeSet;
+
 use gantry::{Mesh, Position};
 use gantry_cli::grid::Grid;
 use gantry_cli::labels::{Page, Point2, Rectangle};
+use gantry_cli::look::Replacing;
 use plain::random::Random;
 
-fn picture(sides: Position, nodes: &[Position]) -> String {
+fn built(sides: Position, nodes: &[Position]) -> Mesh {
     let [x, y, z] = sides;
     let mut mesh = Mesh::start(x, y, z).unwrap();
     mesh.insert_list(nodes).unwrap();
-    Grid::from(&mesh).to_svg(&[])
+    mesh
+}
+
+fn picture(sides: Position, nodes: &[Position]) -> String {
+    Grid::from(&built(sides, nodes)).to_svg(&[], None)
+}
+
+/// With the look that it is of.
+fn picture_of_look(mesh: &mut Mesh, node: Position) -> (String, Replacing) {
+    let replacing = Replacing::of(mesh, node).unwrap();
+    let text = Grid::from(&*mesh).to_svg(&[replacing.summary()], Some(&replacing));
+    (text, replacing)
 }
 
 fn counts(text: &str) -> [usize; 3] {
@@ -67,7 +81,7 @@ fn labels_without_a_place_are_counted() {
 #[test]
 fn a_caption_is_text() {
     let mesh = Mesh::start(4, 4, 4).unwrap();
-    let text = Grid::from(&mesh).to_svg(&["a < b & c > d\n".to_string()]);
+    let text = Grid::from(&mesh).to_svg(&["a < b & c > d\n".to_string()], None);
     assert!(text.contains(">a &lt; b &amp; c &gt; d</text>"));
 }
 
@@ -105,7 +119,7 @@ fn labels_of_small_meshes_do_not_overlap() {
             let _ = mesh.insert(sides.map(|side| random.below(u64::from(side) + 1) as u32));
         }
         let grid = Grid::from(&mesh);
-        let labels = labels(&grid.to_svg(&[]));
+        let labels = labels(&grid.to_svg(&[], None));
         let cells = if grid.cells.len() <= 24 {
             grid.cells.len()
         } else {
@@ -117,14 +131,107 @@ fn labels_of_small_meshes_do_not_overlap() {
             "{:?}",
             grid.summary()
         );
-        for (k, label) in labels.iter().enumerate() {
-            assert!(
-                !labels[..k].iter().any(|other| other.overlaps(label)),
-                "{}",
-                grid.summary()
-            );
+        assert!(!do_overlap(&labels), "{}", grid.summary());
+        // And with a look.
+        let node = sides.map(|side| 1 + random.below(u64::from(side) - 1) as u32);
+        let Ok(replacing) = Replacing::of(&mut mesh, node) else {
+            continue;
+        };
+        let labels = self::labels(&grid.to_svg(&[], Some(&replacing)));
+        assert!(!do_overlap(&labels), "{}", replacing.summary());
+    }
+}
+
+fn do_overlap(labels: &[Rectangle]) -> bool {
+    let overlaps = |k: usize| labels[..k].iter().any(|other| other.overlaps(&labels[k]));
+    (0..labels.len()).any(overlaps)
+}
+
+/// Of the edges and their borders: not of the leaders to labels, which are thin.
+fn strokes(text: &str) -> Vec<&str> {
+    let lines = text.lines().filter(|line| line.starts_with("<line "));
+    let lines = lines.filter(|line| !line.contains("stroke-width=\"0.50\""));
+    let strokes = lines.map(|line| line.split_once("stroke=\"#").expect("a colour").1);
+    strokes.map(|stroke| &stroke[..6]).collect()
+}
+
+/// The others are blue or nearly white.
+fn is_orange(stroke: &&str) -> bool {
+    let shade = |k: usize| u8::from_str_radix(&stroke[k..k + 2], 16).expect("a shade");
+    shade(0) > shade(2) && shade(2) > shade(4) && shade(4) < 0x80
+}
+
+/// How many points are corners of cells that would be replaced.
+fn corners(replacing: &Replacing) -> usize {
+    let corners = replacing.cells.iter().flat_map(|(_, cell)| cell.corners);
+    corners.collect::<BTreeSet<_>>().len()
+}
+
+/// A tint for each cell, a line for each edge, dashes for the edges that would go: as the look has them.
+#[test]
+fn a_look_stands_out() {
+    let mut random = Random::new(3);
+    let mut dashed = 0;
+    for sides in [[4, 4, 4], [60, 9, 5], [2_000, 1_200, 800], [1, 131_072, 3]] {
+        let mut mesh = built(sides, &[]);
+        for _ in 0..25 {
+            let node = sides.map(|side| random.below(u64::from(side) + 1) as u32);
+            let Ok(look) = mesh.look(node) else {
+                continue;
+            };
+            let (text, replacing) = picture_of_look(&mut mesh, node);
+            assert!(!text.contains("NaN") && !text.contains("inf"));
+            let count = |what: &str| text.matches(what).count();
+            assert_eq!(count("<path "), look.cells().count());
+            assert_eq!(count("stroke-dasharray"), replacing.lost.len());
+            let orange = strokes(&text).into_iter().filter(is_orange).count();
+            assert_eq!(orange, replacing.edges.len());
+            // The points are filled, pale if they are no corners; the node is a ring with the next number.
+            let points = mesh.points().len();
+            assert_eq!(count("<circle "), points + 1);
+            let pale = text
+                .lines()
+                .filter(|l| l.starts_with("<circle ") && l.contains("opacity"));
+            assert_eq!(pale.count(), points - corners(&replacing));
+            assert_eq!(count("fill=\"#ffffff\" stroke=\"#7a1fa2\""), 1);
+            assert!(text.contains(&format!(">{points}</text>")));
+            assert!(text.contains(&format!(">{}</text>", replacing.summary())));
+            dashed += replacing.lost.len();
+            mesh.insert(node).unwrap();
         }
     }
+    assert!(dashed > 100, "{dashed}");
+}
+
+#[test]
+fn no_edge_is_missing_beside_a_look() {
+    let mut mesh = built([4; 3], &[[1, 2, 3], [2, 2, 0]]);
+    let without = picture([4; 3], &[[1, 2, 3], [2, 2, 0]]);
+    assert!(!strokes(&without).iter().any(is_orange));
+    // In front, behind, on a wall, on a box edge, and so on.
+    for node in (0..125).map(|k| [k % 5, k / 5 % 5, k / 25]) {
+        if mesh.look(node).is_ok() {
+            let (text, _) = picture_of_look(&mut mesh, node);
+            assert_eq!(strokes(&text).len(), strokes(&without).len());
+        }
+    }
+}
+
+#[test]
+fn the_numbers_beside_a_look() {
+    // Those of all points and of the cells that would be replaced.
+    let mut mesh = built([4; 3], &[[1, 2, 3]]);
+    let (text, replacing) = picture_of_look(&mut mesh, [3, 1, 1]);
+    assert_eq!(labels(&text).len(), 1 + 9 + replacing.cells.len() + 3);
+    assert!(text.contains(">blue: box corners, brown: nodes, ring: the new one, green: cells<"));
+    // Of more than 64 points, the corners of these cells; of more than 12 cells, none.
+    let nodes: Vec<Position> = (1..60).map(|k| [2_000 * k, 1_000, 1_000]).collect();
+    let mut mesh = built([120_000, 40_000, 40_000], &nodes);
+    let (text, replacing) = picture_of_look(&mut mesh, [60_000, 9_000, 9_000]);
+    let corners = corners(&replacing);
+    assert!(corners < 64 && replacing.cells.len() > 12);
+    assert_eq!(labels(&text).len(), 1 + corners + 3);
+    assert!(!text.contains("green"));
 }
 
 #[test]

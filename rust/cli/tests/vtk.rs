@@ -70,12 +70,32 @@ LOOKUP_TABLE default
 #[test]
 fn a_started_box() {
     let mesh = Mesh::start(4, 4, 2).unwrap();
-    assert_eq!(Grid::from(&mesh).to_vtk("a started\n box"), STARTED);
+    assert_eq!(Grid::from(&mesh).to_vtk("a started\n box", None), STARTED);
 }
 
 #[test]
 fn a_long_title_is_cut() {
     let mesh = Mesh::start(4, 4, 4).unwrap();
-    let text = Grid::from(&mesh).to_vtk(&"t".repeat(400));
+    let text = Grid::from(&mesh).to_vtk(&"t".repeat(400), None);
     assert_eq!(text.lines().nth(1).map(str::len), Some(255));
+}
+
+#[test]
+fn a_look_is_a_scalar_of_the_cells() {
+    let mut mesh = Mesh::start(4, 4, 4).unwrap();
+    mesh.insert_list(&[[1, 2, 3], [2, 2, 0]]).unwrap();
+    let look = mesh.look([0, 2, 2]).unwrap();
+    let grid = Grid::from(&mesh);
+    let marks = (0..16).map(|cell| {
+        if [2, 4, 12].contains(&cell) {
+            "1\n"
+        } else {
+            "0\n"
+        }
+    });
+    let marks: String = marks.collect();
+    let scalars = format!("SCALARS replaced int 1\nLOOKUP_TABLE default\n{marks}");
+    let without = grid.to_vtk("a title", None);
+    let expected = without.replace("POINT_DATA", &format!("{scalars}POINT_DATA"));
+    assert_eq!(grid.to_vtk("a title", Some(&look)), expected);
 }

@@ -4,13 +4,15 @@ use std::fmt::Write;
 
 use gantry::{Refusal, Stopped};
 
+use super::queries::refused_at;
 use super::{one_standard_input, survey};
 use crate::check::{conditions, is_mesh, says};
 use crate::grid::Grid;
 use crate::input::Source;
 use crate::listing;
+use crate::look::Replacing;
 use crate::survey::{Built, Survey};
-use crate::words::Words;
+use crate::words::{position, Words};
 use crate::{because, counted, grouped, Done, Failure};
 
 pub fn list(words: &Words) -> Result<Done, Failure> {
@@ -64,11 +66,16 @@ struct Shown {
     built: Built,
     grid: Grid,
     listed: Option<Listed>,
+    replacing: Option<Replacing>,
     complaints: Vec<String>,
 }
 
 impl Shown {
     fn read(words: &Words) -> Result<Shown, Failure> {
+        if words.look.is_some() && words.listing.is_some() {
+            let message = "--look is at the cells that the builder makes: leave --listing out";
+            return Err(Failure::Usage(message.to_string()));
+        }
         one_standard_input([words.listing.as_ref(), words.plain.first()])?;
         let listing = words.listing.as_ref();
         let source = listing.map(|name| Source::read(name)).transpose()?;
@@ -77,13 +84,29 @@ impl Shown {
         let shown = Shown {
             grid: Grid::from(&built.mesh),
             listed: None,
+            replacing: None,
             complaints: survey.complaint(&built).into_iter().collect(),
             survey,
             built,
         };
-        match source {
-            Some(source) => shown.with_listing(source),
-            None => Ok(shown),
+        match (source, words.look) {
+            (Some(source), _) => shown.with_listing(source),
+            (None, Some(node)) => shown.with_look(node),
+            (None, None) => Ok(shown),
+        }
+    }
+
+    fn with_look(mut self, node: [i64; 3]) -> Result<Shown, Failure> {
+        match Replacing::of(&mut self.built.mesh, position(node)) {
+            Ok(replacing) => {
+                self.replacing = Some(replacing);
+                Ok(self)
+            }
+            Err(refusal) => {
+                let why = refused_at(&self.built.mesh, "node", node, refusal);
+                self.complaints.push(why);
+                Err(self.done(String::new()).failure())
+            }
         }
     }
 
@@ -106,13 +129,14 @@ impl Shown {
         Ok(self)
     }
 
-    /// Where the list stopped, if it did.
-    fn stop(&self) -> Option<String> {
-        let Stopped { place, refusal } = self.built.stopped?;
-        let (number, name) = (refusal.number(), refusal.name());
-        Some(format!(
-            "stopped at place {place}: refused {number} ({name})"
-        ))
+    /// Where the list stopped, if it did, and what the node of a look would do.
+    fn lines(&self) -> Vec<String> {
+        let stop = self.built.stopped.map(|Stopped { place, refusal }| {
+            let (number, name) = (refusal.number(), refusal.name());
+            format!("stopped at place {place}: refused {number} ({name})")
+        });
+        let look = self.replacing.as_ref().map(Replacing::summary);
+        stop.into_iter().chain(look).collect()
     }
 
     /// The first line of the listing, from 1, that is not the builder's.
@@ -135,14 +159,17 @@ impl Shown {
 
 pub fn svg(words: &Words) -> Result<Done, Failure> {
     let shown = Shown::read(words)?;
-    let text = shown.grid.to_svg(&Vec::from_iter(shown.stop()));
+    let text = shown.grid.to_svg(&shown.lines(), shown.replacing.as_ref());
     Ok(shown.done(text))
 }
 
 pub fn vtk(words: &Words) -> Result<Done, Failure> {
     let shown = Shown::read(words)?;
-    let title = [shown.grid.summary()].into_iter().chain(shown.stop());
-    let text = shown.grid.to_vtk(&Vec::from_iter(title).join(", "));
+    let title = [vec![shown.grid.summary()], shown.lines()]
+        .concat()
+        .join(", ");
+    let look = shown.replacing.as_ref().map(|replacing| &replacing.look);
+    let text = shown.grid.to_vtk(&title, look);
     Ok(shown.done(text))
 }
 

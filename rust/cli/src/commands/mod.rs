@@ -31,10 +31,17 @@ const OF_FILE_AND_LISTING: &[Choice] = &[
     Choice::Sides,
     Choice::LeaveOut,
 ];
+const OF_PICTURE: &[Choice] = &[
+    Choice::Output,
+    Choice::Look,
+    Choice::Listing,
+    Choice::Sides,
+    Choice::LeaveOut,
+];
 const OF_TWO_FILES: &[Choice] = &[Choice::Output, Choice::Sides];
 const OF_NUMBERS: &[Choice] = &[Choice::Output];
 
-const COMMANDS: [Command; 10] = [
+const COMMANDS: [Command; 11] = [
     Command {
         name: "nodes",
         words: "FILE",
@@ -89,12 +96,24 @@ of the cell with this corner moved to the position; its share is that volume ove
         run: queries::locate,
     },
     Command {
+        name: "look",
+        words: "FILE x y z",
+        summary: "the cells that a node would replace, before it goes in",
+        help: "Several nodes may be given, three numbers each; each is looked at by itself, in FILE's mesh.
+The report is the one that its insertion would give, and a node that would not go in is refused
+with the same number. Nothing goes in, and FILE stays as it is.",
+        choices: OF_FILE,
+        run: queries::look,
+    },
+    Command {
         name: "svg",
         words: "FILE",
         summary: "a picture of the cells",
         help: "The cells' edges, near ones over far ones. Points are numbered where there are at
-most 64, cells where there are at most 24.",
-        choices: OF_FILE_AND_LISTING,
+most 64, cells where there are at most 24. With --look, the cells that the node would replace
+are orange and thick, edges that would go are dashed, and the node is a ring. These cells are
+then numbered where there are at most 12, and their corners also where there are more points.",
+        choices: OF_PICTURE,
         run: cells::svg,
     },
     Command {
@@ -103,8 +122,9 @@ most 64, cells where there are at most 24.",
         summary: "the cells as a grid for ParaView",
         help:
             "A legacy VTK unstructured grid. Of the cells: 'cell', the number, 'volume6', six times
-the volume, and 'volume'. Of the points: 'point', the number.",
-        choices: OF_FILE_AND_LISTING,
+the volume, and 'volume'. Of the points: 'point', the number. With --look, the cells have
+'replaced' too: 1 where the node would replace the cell, else 0.",
+        choices: OF_PICTURE,
         run: cells::vtk,
     },
     Command {

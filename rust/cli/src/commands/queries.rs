@@ -2,20 +2,39 @@
 
 use std::fmt::Write;
 
-use gantry::{sphere_test, volume6, Position, Refusal, SphereAnswer, SIDE_LIMIT};
+use gantry::{sphere_test, volume6, Mesh, Position, Refusal, SphereAnswer, SIDE_LIMIT};
 
 use super::read_survey;
 use crate::grid::Grid;
-use crate::words::{numbers, Words};
+use crate::look::Replacing;
+use crate::survey::refused;
+use crate::words::{numbers, position, Words};
 use crate::{because, counted, grouped, spaced, Done, Failure};
 
 pub fn locate(words: &Words) -> Result<Done, Failure> {
+    each(words, "position", |mesh, grid, p| {
+        Ok(shares(grid, p, mesh.locate(p)?))
+    })
+}
+
+pub fn look(words: &Words) -> Result<Done, Failure> {
+    each(words, "node", |mesh, _, p| {
+        Ok(Replacing::of(mesh, p)?.text())
+    })
+}
+
+/// What `answer` says of each position after FILE, in the mesh of FILE.
+fn each(
+    words: &Words,
+    what: &str,
+    answer: fn(&mut Mesh, &Grid, Position) -> Result<String, Refusal>,
+) -> Result<Done, Failure> {
     let Some((file, coordinates)) = words.plain.split_first() else {
         return Err(Failure::Usage("no FILE".to_string()));
     };
     if coordinates.is_empty() || coordinates.len() % 3 != 0 {
         let count = counted(coordinates.len(), "word");
-        let message = format!("{count} after FILE, and a position has three, x y z");
+        let message = format!("{count} after FILE, and a {what} has three, x y z");
         return Err(Failure::Usage(message));
     }
     let positions = coordinates.chunks_exact(3).map(numbers);
@@ -23,36 +42,31 @@ pub fn locate(words: &Words) -> Result<Done, Failure> {
     let survey = read_survey(file, words)?;
     let mut built = survey.build()?;
     let grid = Grid::from(&built.mesh);
-    let mut text = String::new();
-    let mut complaints: Vec<String> = survey.complaint(&built).into_iter().collect();
+    let mut done = Done {
+        complaints: survey.complaint(&built).into_iter().collect(),
+        notes: survey.notes,
+        ..Done::default()
+    };
     for numbers in positions {
-        match to_position(numbers).and_then(|p| Ok((p, built.mesh.locate(p)?))) {
-            Ok((p, cell)) => text += &shares(&grid, p, cell),
+        match answer(&mut built.mesh, &grid, position(numbers)) {
+            Ok(text) => done.output.extend(text.into_bytes()),
             Err(refusal) => {
-                let [x, y, z] = numbers;
-                let why = match refusal {
-                    Refusal::Outside => format!("the box is {}", spaced(grid.sides)),
-                    _ => refusal.when().to_string(),
-                };
-                let why = because(refusal, &why);
-                complaints.push(format!("position {x} {y} {z}: {why}"));
+                let why = refused_at(&built.mesh, what, numbers, refusal);
+                done.complaints.push(why);
             }
         }
     }
-    Ok(Done {
-        output: text.into_bytes(),
-        notes: survey.notes,
-        complaints,
-    })
+    match done.output.is_empty() {
+        true => Err(done.failure()),
+        false => Ok(done),
+    }
 }
 
-/// A number that is no coordinate lies outside every box.
-fn to_position(numbers: [i64; 3]) -> Result<Position, Refusal> {
-    let mut position = [0; 3];
-    for (to, number) in position.iter_mut().zip(numbers) {
-        *to = u32::try_from(number).map_err(|_| Refusal::Outside)?;
-    }
-    Ok(position)
+/// As the numbers were given.
+pub fn refused_at(mesh: &Mesh, what: &str, numbers: [i64; 3], refusal: Refusal) -> String {
+    let [x, y, z] = numbers;
+    let why = refused(mesh, position(numbers), refusal);
+    format!("{what} {x} {y} {z}: {why}")
 }
 
 /// So many of the cells that hold a position are named.
@@ -124,11 +138,8 @@ pub fn sphere(words: &Words) -> Result<Done, Failure> {
         };
         Failure::input(because(refusal, &why))
     };
-    let mut positions = [[0; 3]; 5];
-    for (to, &numbers) in positions.iter_mut().zip(numbers.as_chunks().0) {
-        *to = to_position(numbers).map_err(refused)?;
-    }
-    let [a, b, c, d, p] = positions;
+    let (positions, _) = numbers.as_chunks();
+    let [a, b, c, d, p] = [0, 1, 2, 3, 4].map(|place| position(positions[place]));
     let answer = sphere_test([a, b, c, d], p).map_err(refused)?;
     let name = match answer {
         SphereAnswer::Inside(_) => "inside",

@@ -1,0 +1,76 @@
+//! What a node would replace, by the library's look.
+
+use std::collections::BTreeSet;
+use std::fmt::Write;
+
+use gantry::{Cell, Look, Mesh, Position, Refusal};
+
+use crate::grid::edges;
+use crate::{counted, spaced};
+
+/// A look at a node, with the cells and edges that it is about.
+pub struct Replacing {
+    pub look: Look,
+    /// The cells that would be replaced, with their numbers.
+    pub cells: Vec<(usize, Cell)>,
+    /// Their edges.
+    pub edges: BTreeSet<[usize; 2]>,
+    /// Those among these that no cell would have any more.
+    pub lost: BTreeSet<[usize; 2]>,
+    /// How many cells there would be.
+    pub then: usize,
+}
+
+impl Replacing {
+    /// The mesh stays as it is: what would be left is seen in a copy, into which the node goes with the look's marks.
+    pub fn of(mesh: &mut Mesh, node: Position) -> Result<Replacing, Refusal> {
+        let look = mesh.look(node)?;
+        let mut after = mesh.clone();
+        after.insert_looked(&look)?;
+        let numbers = look.cells();
+        let cells = numbers.filter_map(|number| Some((number, mesh.cell(number)?)));
+        let cells: Vec<(usize, Cell)> = cells.collect();
+        let edges_of_these = edges(cells.iter().map(|&(_, cell)| cell));
+        let edges_then = edges(after.cells());
+        let then = after.cells().len();
+        Ok(Replacing {
+            lost: edges_of_these.difference(&edges_then).copied().collect(),
+            edges: edges_of_these,
+            cells,
+            then,
+            look,
+        })
+    }
+
+    /// Is a point a corner of a cell that would be replaced?
+    pub fn has_corner(&self, point: usize) -> bool {
+        let mut cells = self.cells.iter();
+        cells.any(|(_, cell)| cell.corners.contains(&point))
+    }
+
+    /// `node x y z would be point P and replace A of C cells by M`
+    pub fn summary(&self) -> String {
+        let report = self.look.report();
+        let (point, after, made) = (report.point, report.after, report.made);
+        let (node, cells) = (spaced(self.look.position()), self.look.marks().len());
+        format!("node {node} would be point {point} and replace {after} of {cells} cells by {made}")
+    }
+
+    /// The report, and a line for each cell that would be replaced.
+    pub fn text(&self) -> String {
+        let report = self.look.report();
+        let mut text = format!("{}: {} cells then\n", self.summary(), self.then);
+        let before = counted(report.before, "cell");
+        let (after, least) = (report.after, report.least);
+        // T is a whole number, and all of its digits are shown.
+        let _ = writeln!(
+            text,
+            "  cavity: {before} before correction, {after} after; least T {least:.0}"
+        );
+        for (number, cell) in &self.cells {
+            let [a, b, c, d] = cell.corners;
+            let _ = writeln!(text, "  cell {number}: corners {a} {b} {c} {d}");
+        }
+        text
+    }
+}
