@@ -19,7 +19,7 @@ use Rattle.cavity.specs.Answers.{Answers, saysYes, answersOf}
 use Rattle.cavity.specs.Cavity.{inSet, correctedCavity, cavitySize}
 use Rattle.cavity.specs.Inner.Star.{StarShaped}
 use Rattle.cavity.specs.Inner.{inside, setOf, CavityFound}
-use Rattle.star.specs.Star.{keptCount, madeCount, newCount, star}
+use Rattle.star.specs.Star.{keptCount, newCount, star}
 use Rattle.star.specs.Inner.{Replacing}
 use Rattle.insertion.specs.declared.Found.{Found}
 use Rattle.insertion.specs.declared.Inserted.{Inserted}

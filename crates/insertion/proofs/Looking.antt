@@ -1,14 +1,14 @@
 -- A look, and an insertion with marks: their refusals, and their contracts from what their parts leave.
-use Prim.Native.Nat.{ℕ, zero, suc, _+_, _≤_, _<_}
+use Prim.Native.Nat.{ℕ, _+_, _≤_, _<_}
 use mathlib.Core.Bool.{Bool, true, false, _&&_, cond, true≢false}
 use mathlib.Core.List.{List, [], _∷_}
 use mathlib.Core.Logic.{_≢_, _⊎_, inl, inr}
-use mathlib.Core.Path.{_≡_, refl, sym, ap, ap₂, _∙_, subst}
+use mathlib.Core.Path.{_≡_, refl, sym, ap, _∙_, subst}
 use native.Mathlib.Numerals.{add-one}
 use native.Mathlib.Omega.{arith}
 use borrow.Author.Tests.{eq-eqb, ne-eqb, lt-ltb, le-ltb}
 use mir.Val.{boolByte}
-use lib.Dec.{ltb, eqb}
+use lib.Dec.{eqb}
 use lib.ListN.{length, getD, drop, drop-of-length-le}
 use lib.Seq.{drop-cons}
 use Rattle.arith.proofs.Flags.{split, and-right, fails}
@@ -27,7 +27,7 @@ use Rattle.insertion.specs.declared.Attempt.{Attempt}
 use Rattle.insertion.specs.declared.Inserted.the-variants.{Refused}
 use Rattle.insertion.specs.declared.Looked.{Looked}
 use Rattle.insertion.specs.declared.Looked.the-variants.{Reported, Refused as LookRefused}
-use Rattle.insertion.specs.Insertion.{nodeRefusal, fewerBytes, insertRefusal, reportOf, insertUnless}
+use Rattle.insertion.specs.Insertion.{nodeRefusal, fewerBytes, insertRefusal, reportOf}
 use Rattle.insertion.specs.Look.{cavityMarks, lookRefusal, lookUnless, lookCall, LookLeaves, beginsWith, markedRefusal, markedCall, MarkedLeaves}
 use Rattle.insertion.specs.Inner.{Starable, Tested, reportWith, stateMarks, marksAllow, refusalWith, AttemptLeaves, nodeLookRefusal, NodeLooked}
 use Rattle.insertion.proofs.Refusals.{both-pass, unless-refused}

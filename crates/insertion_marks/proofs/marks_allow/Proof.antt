@@ -1,10 +1,9 @@
 -- After c turns the first c bytes are the marks of the first c cells.
 use Prim.Native.Nat.{_-_, _≤_}
-use mathlib.Core.Path.{_≡_, refl}
+use mathlib.Core.Path.{refl}
 use native.Mathlib.Omega.{arith}
 use borrow.Author.Needs.{needs}
 use borrow.Author.Tests.{not-true, not-false}
-use lib.ListN.{length}
 use Rattle.insertion.proofs.Looking.{Matching, matching-more, no-marks-asked, too-few-marks, mark-differs, marks-match}
 use Rattle.insertion_marks.proofs.marks_allow.Statement.{statement}
 use Rattle.insertion_marks.proofs.marks_allow.Tie as tie
