@@ -17,8 +17,8 @@ use Rattle.cavity.specs.Answers.{Answers, sphere, handed}
 use Rattle.insertion.specs.Insertion.{nodeRefusal, fewerBytes, insertRefusal, insertedMesh, insertedTables, insertUnless, insertCall}
 use Rattle.insertion.specs.List.{listedNode, listedCount, insertFrom, listCall}
 use Rattle.insertion.specs.Look.{lookCall, markedRefusal, markedCall}
-use Rattle.insertion.proofs.Refusals.{unless-accepted, unless-refused, node-accepted, node-refused, tests-passed}
-use Rattle.insertion.proofs.Looking.{tables-stay, marked-accepted}
+use Rattle.insertion.proofs.Refusals.{marked-passed, unless-accepted, unless-refused, node-accepted, node-refused, tests-passed}
+use Rattle.insertion.proofs.Looking.{tables-stay}
 use Rattle.insertion.proofs.Growing.{checks-again}
 use Rattle.insertion.proofs.Steps.{list-refused, list-begins, node-in, node-out}
 use Rattle.calls.specs.Calls.{Build, Call, by-sphere, by-answers, by-marks, by-list, look, recordAfter, recordAfterList, acceptedNode, acceptedNodes, Outcome, insertOutcome, listOutcome, lookOutcome, outcome, meshAfter, acceptedBy}
@@ -61,7 +61,8 @@ module _ (P : Build → List Position → Type 0) where
   pub marked-keeps : KeptBy sphere → (m : Mesh) (t : Tables) (w : ℕ) (marks : List ℕ) (p : Position) (ps : List Position) → P (built m t) ps →
       Keeps ps (insertOutcome m p (markedCall m t w p marks))
   unfolding markedCall
-  marked-keeps more m t w marks p ps K = unless-keeps sphere more m t w p ps (markedRefusal m t w p marks) (marked-accepted m t w p marks) K
+  marked-keeps more m t w marks p ps K =
+      unless-keeps sphere more m t w p ps (markedRefusal (insertRefusal m t w p sphere) m t p sphere marks) (λ e. marked-passed m t p sphere marks e .0) K
 
   pub look-keeps : (m : Mesh) (t : Tables) (w : ℕ) (marks : List ℕ) (p : Position) (ps : List Position) → P (built m t) ps →
       Keeps ps (lookOutcome m (lookCall m t w p marks))

@@ -28,7 +28,7 @@ use Rattle.insertion.specs.declared.Inserted.the-variants.{Refused}
 use Rattle.insertion.specs.declared.Looked.the-variants.{Refused as NotLooked}
 use Rattle.insertion.specs.declared.Listed.{Listed}
 use Rattle.insertion.specs.declared.Listed.the-variants.{Stopped, Refused as AllRefused}
-use Rattle.insertion.specs.Insertion.{cellsMade, nodeRefusal, fewerBytes, insertRefusal, insertUnless, insertCall}
+use Rattle.insertion.specs.Insertion.{cellsMade, nodeRefusal, fewerBytes, firstOf, insertRefusal, insertUnless, insertCall}
 use Rattle.insertion.specs.List.{listedNode, listedCount, insertFrom, listCall}
 use Rattle.insertion.specs.Look.{cavityMarks, lookRefusal, lookUnless, lookCall, beginsWith, markedRefusal, markedCall}
 use Rattle.insertion.proofs.Refusals.{unless-accepted, unless-refused, node-accepted, node-refused}
@@ -111,25 +111,28 @@ module _ (m : Mesh) (t : Tables) (w : ℕ) (p : Position) where
   unfolding insertCall
   insert-never-seven a = unless-never-seven a (insertRefusal m t w p a) (insertion-never a)
 
-  -- the insertion's refusal, or another test's where there is none
-  then-never : (k : ℕ) → k ≢ unheld → cond (eqb (insertRefusal m t w p sphere) 0) k (insertRefusal m t w p sphere) ≢ unheld
+  -- nor with a further test
+  then-never : (k : ℕ) → k ≢ unheld → firstOf (insertRefusal m t w p sphere) k ≢ unheld
   then-never k d = either (eqb (insertRefusal m t w p sphere) 0) k (insertRefusal m t w p sphere) d (insertion-never sphere)
 
   module _ (marks : List ℕ) where
     marked-never-seven : markedCall m t w p marks .answer ≢ Refused unheld
     unfolding markedCall markedRefusal
     marked-never-seven =
-        unless-never-seven sphere (markedRefusal m t w p marks)
+        unless-never-seven sphere (markedRefusal (insertRefusal m t w p sphere) m t p sphere marks)
         (then-never _ (either (beginsWith (cavityMarks m t p sphere) marks) 0 14 (λ e. omega arith) (λ e. omega arith)))
 
     look-never-seven : lookCall m t w p marks .answer ≢ NotLooked unheld
     unfolding lookCall lookUnless lookRefusal
-    look-never-seven = go (split (eqb (lookRefusal m t w p marks) 0))
+    look-never-seven = go (split (eqb refusal 0))
       where
-        never : lookRefusal m t w p marks ≢ unheld
+        refusal : ℕ
+        refusal = lookRefusal (insertRefusal m t w p sphere) m marks
+
+        never : refusal ≢ unheld
         never = then-never _ (either (ltb (length marks) (m .cells)) 10 0 (λ e. omega arith) (λ e. omega arith))
 
-        go : (eqb (lookRefusal m t w p marks) 0 ≡ true) ⊎ (eqb (lookRefusal m t w p marks) 0 ≡ false) → lookCall m t w p marks .answer ≢ NotLooked unheld
+        go : (eqb refusal 0 ≡ true) ⊎ (eqb refusal 0 ≡ false) → lookCall m t w p marks .answer ≢ NotLooked unheld
         go (inl e) = rw e (λ q. let z : _≡_ {A = ℕ} 0 1 = cc in omega arith)
         go (inr e) = rw e (λ q. never cc)
 

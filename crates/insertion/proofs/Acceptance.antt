@@ -3,11 +3,9 @@ use Prim.Native.Nat.{ℕ, _+_, _-_, _≤_, _<_}
 use mathlib.Core.Bool.{Bool, true, false, not, cond, _||_}
 use mathlib.Core.List.{List}
 use mathlib.Core.Logic.{_≢_}
-use mathlib.Core.Path.{_≡_, refl, sym, ap, ap₂, _∙_, subst}
+use mathlib.Core.Path.{_≡_, sym, ap, ap₂, _∙_, subst}
 use native.Mathlib.Omega.{arith}
-use borrow.Author.Tests.{ne-eqb}
 use lib.ListN.{length}
-use Rattle.arith.specs.Table.{tabulate}
 use Rattle.arith.proofs.Tables.{tabulate-at, tabulate-cong}
 use Rattle.arith.proofs.Counting.{count-not}
 use Rattle.geometry.specs.declared.Position.{Position}
@@ -24,32 +22,19 @@ use Rattle.star.specs.Inner.{Replacing}
 use Rattle.insertion.specs.declared.Found.{Found}
 use Rattle.insertion.specs.declared.Inserted.{Inserted}
 use Rattle.insertion.specs.declared.Inserted.the-variants.{Accepted, Refused}
-use Rattle.insertion.specs.Insertion.{firstCavity, lastCavity, cellsMade, nodeRefusal, reportOf, insertedMesh, insertedTables, insertUnless, insertNode}
-use Rattle.insertion.specs.Look.{cavityMarks, beginsWith}
-use Rattle.insertion.specs.Inner.{NodeOf, Admitted, Starable, Tested, reportWith, acceptedWith, stateMarks, marksAllow, refusalWith, insertNodeWith, AttemptLeaves}
-use Rattle.insertion.proofs.Refusals.{unless-accepted, unless-refused}
+use Rattle.insertion.specs.Insertion.{firstCavity, lastCavity, cellsMade, nodeRefusal, reportOf, insertedMesh, insertedTables}
+use Rattle.insertion.specs.Look.{marksOf, cavityMarks, beginsWith}
+use Rattle.insertion.specs.Inner.{NodeOf, Admitted, Starable, Tested, reportWith, acceptedWith, stateMarks, marksAllow, refusalWith, AttemptLeaves}
+use Rattle.insertion.proofs.Refusals.{marked-refuses, marked-passes, unless-accepted, unless-refused}
 use Rattle.insertion.proofs.Admission.{H, node-mesh, cells≤, node-cells≤, points≤, next-point, star-shaped, made-is, last-is, before≤, after≤, no-refusal}
 
 -- ---- answers from refusals
 
-module _ (asked : Bool) (marks : List ℕ) (m : Mesh) (t : Tables) (w : ℕ) (p : Position) (a : Answers) where
-  with-is : insertNodeWith asked marks m t w p a ≡ insertUnless (refusalWith asked marks m t w p a) m t p a
-  unfolding insertNode
-  with-is = go asked
-    where
-      go : (asked : Bool) → insertNodeWith asked marks m t w p a ≡ insertUnless (refusalWith asked marks m t w p a) m t p a
-      go false = refl
-      go true = refl
-
-  with-accepted : refusalWith asked marks m t w p a ≡ 0 →
-      insertNodeWith asked marks m t w p a ≡ record { answer = Accepted (insertedMesh m t p a) (reportOf m t p a); tables = insertedTables m t p a }
-  with-accepted z = with-is ∙ unless-accepted m t p a z
-
-  attempt-refused : {k : ℕ} → refusalWith asked marks m t w p a ≡ k → k ≢ 0 →
-      AttemptLeaves asked marks m t w p a record { refusal = k; inserted = Refused k } t
-  attempt-refused e d =
-      let q = with-is ∙ unless-refused m t p a e d in
-      record { refusal = sym e; answer = sym (ap (λ l. l .answer) q); tables = sym (ap (λ l. l .tables) q) }
+attempt-refused : (asked : Bool) (marks : List ℕ) (m : Mesh) (t : Tables) (w : ℕ) (p : Position) (a : Answers) {k : ℕ} →
+    refusalWith asked marks m t w p a ≡ k → k ≢ 0 → AttemptLeaves asked marks m t w p a record { refusal = k; inserted = Refused k } t
+attempt-refused asked marks m t w p a e d =
+    let q = unless-refused m t p a e d in
+    record { refusal = sym e; answer = sym (ap (λ l. l .answer) q); tables = sym (ap (λ l. l .tables) q) }
 
 -- ---- a node that no test refuses
 
@@ -129,14 +114,11 @@ module _ {m : Mesh} {t : Tables} {bytes : List ℕ} {d : Node} {st li fa nu : Li
 
   -- the states of the cells give the marks of a look
   pub marks-are : stateMarks (d .cells) st ≡ cavityMarks m t p a
-  unfolding stateMarks cavityMarks setOf
-  marks-are = ap (λ n. tabulate n (λ c. markOf (inside st c))) (N .cells-are) ∙ tabulate-cong n _ _ each
+  unfolding cavityMarks setOf
+  marks-are = ap (λ n. marksOf n (inside st)) (N .cells-are) ∙ tabulate-cong n _ _ each
     where
-      markOf : Bool → ℕ
-      markOf b = cond b 1 0
-
-      each : (c : ℕ) → c < n → markOf (inside st c) ≡ markOf (inSet (lastCavity m t p a) c)
-      each c h = ap markOf (sym (tabulate-at n (inside st) c false h) ∙ ap (λ s. inSet s c) (last-is A (S .found) (S .some)))
+      each : (c : ℕ) → c < n → cond {A = ℕ} (inside st c) 1 0 ≡ cond (inSet (lastCavity m t p a) c) 1 0
+      each c h = ap (λ b. cond {A = ℕ} b 1 0) (sym (tabulate-at n (inside st) c false h) ∙ ap (λ s. inSet s c) (last-is A (S .found) (S .some)))
 
   module _ (asked : Bool) (marks : List ℕ) {allowed : Bool} (e : allowed ≡ marksAllow asked (d .cells) st marks) where
     -- no test is left but that of the marks
@@ -146,7 +128,7 @@ module _ {m : Mesh} {t : Tables} {bytes : List ℕ} {d : Node} {st li fa nu : Li
       where
         go : (asked : Bool) → allowed ≡ (not asked || beginsWith (stateMarks (d .cells) st) marks) → refusalWith asked marks m t (d .work) p a ≡ cond allowed 0 14
         go false e = rw e none-refused
-        go true e = rw (none-refused, e, marks-are)
+        go true e = marked-passes m t p a marks none-refused ∙ rw (e, marks-are)
 
     pub accepted-leaves : allowed ≡ true → {g : Inserted} {t′ : Tables} → g ≡ acceptedWith m r →
         t′ ≡ star t (d .cells) (d .position) (d .points) (setOf (d .cells) st) →
@@ -154,7 +136,7 @@ module _ {m : Mesh} {t : Tables} {bytes : List ℕ} {d : Node} {st li fa nu : Li
     unfolding insertedTables
     accepted-leaves y eg et =
         let z : refusalWith asked marks m t (d .work) p a ≡ 0 = refusal-is ∙ rw y in
-        let q = with-accepted asked marks m t (d .work) p a z in
+        let q = unless-accepted m t p a z in
         record {
           refusal = sym z;
           answer = eg ∙ (answer-is ∙ sym (ap (λ l. l .answer) q));
@@ -178,4 +160,4 @@ refused-attempt {m} {t} {bytes} {d} {r = r} {asked = asked} {marks = marks} T z 
 
     go : (asked : Bool) → refusalWith asked marks m t (d .work) (d .position) a ≡ r .refusal
     go false = sym (T .refusal-is)
-    go true = rw (sym (T .refusal-is), ne-eqb (r .refusal) 0 z)
+    go true = marked-refuses m t (d .position) a marks (sym (T .refusal-is)) z

@@ -23,7 +23,7 @@ use Rattle.insertion.specs.declared.Inserted.the-variants.{Accepted, Ref
 use Rattle.insertion.specs.declared.Listed.{Listed}
 use Rattle.insertion.specs.declared.Listed.the-variants.{Ended, Stopped, Refused as AllRefused}
 use Rattle.insertion.specs.declared.Report.{Report}
-use Rattle.insertion.specs.Insertion.{fewerBytes, InsertLeaves}
+use Rattle.insertion.specs.Insertion.{fewerBytes, insertNode, InsertLeaves}
 use Rattle.insertion.specs.List.{ListLeaves, insertFrom, listedNode, listedCount}
 use Rattle.insertion.specs.Inner.{AttemptLeaves, NodesLeave}
 use Rattle.insertion.proofs.Refusals.{refused-number, refused-leaves, node-leaves}
@@ -52,6 +52,7 @@ module _ (m : Mesh) (t : Tables) (ws : List ℕ) {ws′ : List ℕ} (c : ws′ �
 
     pub node-at : {marks : List ℕ} {k : ℕ} {g : Attempt} {t′ : Tables} → k ≡ meshRefusal m t (length ws′) (fewerBytes a (m .cells)) → k ≡ 0 →
         AttemptLeaves false marks m t (length ws′) p a g t′ → InsertLeaves m t ws p a (g .inserted) t′ ws′
+    unfolding insertNode
     node-at {marks} {k} {g} {t′} e z L =
         let N = subst (λ w. AttemptLeaves false marks m t w p a g t′) (same-work ws c) L in
         node-leaves m t ws ws′ p a c (sym (e ∙ ap (λ w. meshRefusal m t w (fewerBytes a (m .cells))) (same-work ws c)) ∙ z) (N .answer) (N .tables)
@@ -102,6 +103,7 @@ module _ {m₀ : Mesh} {t₀ : Tables} {w : ℕ} {ns : List ℕ} {m : Mesh} {t :
   pub one-more : i < listedCount ns → {marks : List ℕ} {m′ : Mesh} {r : Report} {g : Attempt} {t′ : Tables} → AttemptLeaves false marks m t w (listedNode ns i) sphere g t′ → g .inserted ≡ Accepted m′ r →
       length (t′ .points) ≡ length (t .points) → length (t′ .corners) ≡ length (t .corners) → length (t′ .neighbours) ≡ length (t .neighbours) →
       Inserting m₀ t₀ w ns m′ t′ (i + 1)
+  unfolding insertNode
   one-more h {m′ = m′} {r = r} {t′ = t′} L q a b c = record {
     began = P .began;
     mesh = accepted-checks m t w (listedNode ns i) sphere (P .mesh) (sym q ∙ L .answer) (L .tables);
@@ -114,6 +116,7 @@ module _ {m₀ : Mesh} {t₀ : Tables} {w : ℕ} {ns : List ℕ} {m : Mesh} {t :
 
   pub stops-here : i < listedCount ns → {marks : List ℕ} {g : Attempt} {e : ℕ} {t′ : Tables} → AttemptLeaves false marks m t w (listedNode ns i) sphere g t′ → g .inserted ≡ Refused e →
       NodesLeave m₀ t₀ w ns (Stopped m i (g .refusal)) t′
+  unfolding insertNode
   stops-here h {g = g} {e = e} L q =
       let s = sym (P .rest) ∙ list-stops m t w ns i (listedCount ns) h (sym q ∙ L .answer) (L .tables) in
       let z : g .refusal ≡ e = L .refusal ∙ refused-number m t w (listedNode ns i) sphere (sym q ∙ L .answer) in

@@ -28,9 +28,9 @@ use Rattle.insertion.specs.declared.Inserted.the-variants.{Refused}
 use Rattle.insertion.specs.declared.Looked.{Looked}
 use Rattle.insertion.specs.declared.Looked.the-variants.{Reported, Refused as LookRefused}
 use Rattle.insertion.specs.Insertion.{nodeRefusal, fewerBytes, insertRefusal, reportOf}
-use Rattle.insertion.specs.Look.{cavityMarks, lookRefusal, lookUnless, lookCall, LookLeaves, beginsWith, markedRefusal, markedCall, MarkedLeaves}
-use Rattle.insertion.specs.Inner.{Starable, Tested, reportWith, stateMarks, marksAllow, refusalWith, AttemptLeaves, nodeLookRefusal, NodeLooked}
-use Rattle.insertion.proofs.Refusals.{both-pass, unless-refused}
+use Rattle.insertion.specs.Look.{marksOf, cavityMarks, lookRefusal, lookUnless, lookCall, LookLeaves, beginsWith, markedCall, MarkedLeaves}
+use Rattle.insertion.specs.Inner.{Starable, Tested, reportWith, stateMarks, marksAllow, AttemptLeaves, NodeLooked}
+use Rattle.insertion.proofs.Refusals.{look-refuses, look-passes, marked-refuses, unless-refused, first-three, left-to-node}
 use Rattle.insertion.proofs.Acceptance.{none-refused, report-is, marks-are}
 use Rattle.insertion.proofs.Leaving.{same-work}
 
@@ -54,17 +54,16 @@ pub begins-at : (expected bytes : List ℕ) (i : ℕ) → i < length expected �
 unfolding beginsWith
 begins-at expected bytes i h k = rw (drop-cons expected i 0 h, drop-cons bytes i 0 k, add-one)
 
--- ---- the marks of n cells with the states st
+-- ---- marks of n cells
 
+pub marks-length : (n : ℕ) (isMarked : ℕ → Bool) → length (marksOf n isMarked) ≡ n
+marks-length n isMarked = tabulate-length n _
+
+pub mark-at : (n : ℕ) (isMarked : ℕ → Bool) (c : ℕ) → c < n → getD (marksOf n isMarked) c 0 ≡ cond (isMarked c) 1 0
+mark-at n isMarked c h = tabulate-at n _ c 0 h
+
+-- with the states st
 module _ (n : ℕ) (st : List ℕ) where
-  pub marks-length : length (stateMarks n st) ≡ n
-  unfolding stateMarks
-  marks-length = tabulate-length n _
-
-  pub mark-at : (c : ℕ) → c < n → getD (stateMarks n st) c 0 ≡ cond (inside st c) 1 0
-  unfolding stateMarks
-  mark-at c h = tabulate-at n _ c 0 h
-
   module _ (marks : List ℕ) where
     -- the first c bytes are these marks
     abbrev pub Matching : ℕ → Type 0
@@ -74,8 +73,8 @@ module _ (n : ℕ) (st : List ℕ) where
         beginsWith (drop c (stateMarks n st)) (drop c marks) ≡
         (eqb (getD marks c 0) (cond (inside st c) 1 0) && beginsWith (drop (c + 1) (stateMarks n st)) (drop (c + 1) marks))
     one-mark c h k =
-        begins-at (stateMarks n st) marks c (omega (arith, h, marks-length)) k ∙
-        ap (λ x. eqb (getD marks c 0) x && beginsWith (drop (c + 1) (stateMarks n st)) (drop (c + 1) marks)) (mark-at c h)
+        begins-at (stateMarks n st) marks c (omega (arith, h, marks-length n (inside st))) k ∙
+        ap (λ x. eqb (getD marks c 0) x && beginsWith (drop (c + 1) (stateMarks n st)) (drop (c + 1) marks)) (mark-at n (inside st) c h)
 
     pub matching-more : (c : ℕ) → c < n → c < length marks → Matching c → getD marks c 0 ≡ cond (inside st c) 1 0 → Matching (c + 1)
     matching-more c h k M e = sym (rw (eq-eqb (getD marks c 0) (cond (inside st c) 1 0) e) at (one-mark c h k)) ∙ M
@@ -91,78 +90,70 @@ module _ (n : ℕ) (st : List ℕ) where
 
       pub too-few-marks : length marks < n → false ≡ marksAllow asked n st marks
       too-few-marks h =
-          sym (asked-is ∙ fails (beginsWith (stateMarks n st) marks) (λ b. omega (arith, begins-long (stateMarks n st) marks b, marks-length)))
+          sym (asked-is ∙ fails (beginsWith (stateMarks n st) marks) (λ b. omega (arith, begins-long (stateMarks n st) marks b, marks-length n (inside st))))
 
       pub mark-differs : (c : ℕ) → c < n → c < length marks → Matching c → getD marks c 0 ≢ cond (inside st c) 1 0 → false ≡ marksAllow asked n st marks
       mark-differs c h k M d = sym (asked-is ∙ (sym M ∙ rw (ne-eqb (getD marks c 0) (cond (inside st c) 1 0) d) at (one-mark c h k)))
 
       pub marks-match : (c : ℕ) → n ≤ c → Matching c → true ≡ marksAllow asked n st marks
       unfolding beginsWith
-      marks-match c h M = sym (asked-is ∙ (sym M ∙ rw (drop-of-length-le (stateMarks n st) {i = c} (omega (arith, h, marks-length)))))
+      marks-match c h M = sym (asked-is ∙ (sym M ∙ rw (drop-of-length-le (stateMarks n st) {i = c} (omega (arith, h, marks-length n (inside st))))))
 
--- ---- the calls' refusals, from those of tests 1 to 3
+-- ---- the calls
 
-module _ (m : Mesh) (t : Tables) (w : ℕ) (p : Position) (marks : List ℕ) where
-  look-first : {k : ℕ} → meshRefusal m t w false ≡ k → k ≢ 0 → lookRefusal m t w p marks ≡ k
-  unfolding lookRefusal insertRefusal fewerBytes
-  look-first {k} e d = rw (e, ne-eqb k 0 d, ne-eqb k 0 d)
+-- a look leaves the tables
+unless-stays : (r : ℕ) (m : Mesh) (t : Tables) (p : Position) (marks : List ℕ) → lookUnless r m t p marks .tables ≡ t
+unfolding lookUnless
+unless-stays r m t p marks = go (split (eqb r 0))
+  where
+    go : (eqb r 0 ≡ true) ⊎ (eqb r 0 ≡ false) → lookUnless r m t p marks .tables ≡ t
+    go (inl e) = rw e
+    go (inr e) = rw e
 
-  look-passes : meshRefusal m t w false ≡ 0 → lookRefusal m t w p marks ≡ nodeLookRefusal m t w p marks
-  unfolding lookRefusal nodeLookRefusal insertRefusal fewerBytes
-  look-passes e = rw e
+pub tables-stay : (m : Mesh) (t : Tables) (w : ℕ) (p : Position) (marks : List ℕ) → lookCall m t w p marks .tables ≡ t
+unfolding lookCall
+tables-stay m t w p marks = unless-stays (lookRefusal (insertRefusal m t w p sphere) m marks) m t p marks
 
-  marked-first : {k : ℕ} → meshRefusal m t w false ≡ k → k ≢ 0 → markedRefusal m t w p marks ≡ k
-  unfolding markedRefusal insertRefusal fewerBytes
-  marked-first {k} e d = rw (e, ne-eqb k 0 d, ne-eqb k 0 d)
-
-  marked-passes : meshRefusal m t w false ≡ 0 → markedRefusal m t w p marks ≡ refusalWith true marks m t w p sphere
-  unfolding markedRefusal insertRefusal fewerBytes
-  marked-passes e = rw e
-
-  -- a look leaves the tables
-  pub tables-stay : lookCall m t w p marks .tables ≡ t
-  unfolding lookCall lookUnless
-  tables-stay = go (split (eqb (lookRefusal m t w p marks) 0))
-    where
-      go : (eqb (lookRefusal m t w p marks) 0 ≡ true) ⊎ (eqb (lookRefusal m t w p marks) 0 ≡ false) → lookCall m t w p marks .tables ≡ t
-      go (inl e) = rw e
-      go (inr e) = rw e
-
-  -- an insertion with marks that no test refuses: the plain one is not refused either
-  pub marked-accepted : markedRefusal m t w p marks ≡ 0 → insertRefusal m t w p sphere ≡ 0
-  unfolding markedRefusal
-  marked-accepted e = both-pass (insertRefusal m t w p sphere) _ e .0
-
--- ---- the calls' contracts
+-- ---- their contracts
 
 module _ (m : Mesh) (t : Tables) (ws : List ℕ) {ws′ : List ℕ} (c : ws′ ≡ cleared ws) (p : Position) (marks : List ℕ) {k : ℕ} (e : k ≡ meshRefusal m t (length ws′) false) where
-  first-three : meshRefusal m t (length ws) false ≡ k
-  first-three = sym (e ∙ ap (λ w. meshRefusal m t w false) (same-work ws c))
+  tested : meshRefusal m t (length ws) false ≡ k
+  tested = sym (e ∙ ap (λ w. meshRefusal m t w false) (same-work ws c))
+
+  -- tests 1 to 3 refuse it
+  refused : k ≢ 0 → insertRefusal m t (length ws) p sphere ≡ k
+  unfolding fewerBytes
+  refused d = first-three m t (length ws) p sphere tested d
+
+  -- or let it pass
+  passes : k ≡ 0 → insertRefusal m t (length ws) p sphere ≡ nodeRefusal m t (length ws) p sphere
+  unfolding fewerBytes
+  passes z = left-to-node m t (length ws) p sphere (tested ∙ z)
 
   pub look-refused-at : k ≢ 0 → LookLeaves m t ws p marks (LookRefused k) t ws′ marks
   unfolding lookCall lookUnless
   look-refused-at d =
-      let q = look-first m t (length ws) p marks first-three d in
+      let q = look-refuses m marks (refused d) d in
       record { answer = rw (q, ne-eqb k 0 d); tables = rw (q, ne-eqb k 0 d); marks-left = rw (q, ne-eqb k 0 d); work = c }
 
   pub look-at : k ≡ 0 → {r : Looked} {t′ : Tables} {marks′ : List ℕ} → NodeLooked m t (length ws′) p marks r t′ marks′ → LookLeaves m t ws p marks r t′ ws′ marks′
   unfolding lookCall
   look-at z {r} {t′} {marks′} L =
       let N = subst (λ w. NodeLooked m t w p marks r t′ marks′) (same-work ws c) L in
-      let q = look-passes m t (length ws) p marks (first-three ∙ z) in
+      let q = passes z in
       record { answer = rw q (N .answer); tables = rw q (N .tables); marks-left = rw q (N .marks-left); work = c }
 
   pub marked-refused-at : k ≢ 0 → MarkedLeaves m t ws p marks (Refused k) t ws′
   unfolding markedCall
   marked-refused-at d =
-      let q = unless-refused m t p sphere (marked-first m t (length ws) p marks first-three d) d in
+      let q = unless-refused m t p sphere (marked-refuses m t p sphere marks (refused d) d) d in
       record { answer = sym (ap (λ l. l .answer) q); tables = sym (ap (λ l. l .tables) q); work = c }
 
   pub marked-at : k ≡ 0 → {g : Attempt} {t′ : Tables} → AttemptLeaves true marks m t (length ws′) p sphere g t′ → MarkedLeaves m t ws p marks (g .inserted) t′ ws′
   unfolding markedCall
   marked-at z {g} {t′} L =
       let N = subst (λ w. AttemptLeaves true marks m t w p sphere g t′) (same-work ws c) L in
-      let q = marked-passes m t (length ws) p marks (first-three ∙ z) in
+      let q = passes z in
       record { answer = rw q (N .answer); tables = rw q (N .tables); work = c }
 
 -- ---- a look after tests 1 to 3: a node by the sphere test, with marks to write
@@ -170,10 +161,12 @@ module _ (m : Mesh) (t : Tables) (ws : List ℕ) {ws′ : List ℕ} (c : ws′ �
 pub looked-refused : {m : Mesh} {t : Tables} {bytes : List ℕ} {d : Node} {st li fa nu : List ℕ} {r : Found} →
     Tested m t bytes d st li fa nu r → answersOf (d .handed) bytes ≡ sphere → (marks : List ℕ) → r .refusal ≢ 0 →
     NodeLooked m t (d .work) (d .position) marks (LookRefused (r .refusal)) t marks
-unfolding lookUnless nodeLookRefusal
+unfolding lookUnless
 looked-refused {m} {t} {d = d} {r = r} T own marks z =
-    let q : nodeRefusal m t (d .work) (d .position) sphere ≡ r .refusal = sym (T .refusal-is ∙ ap (nodeRefusal m t (d .work) (d .position)) own) in
-    record { answer = rw (q, ne-eqb (r .refusal) 0 z, ne-eqb (r .refusal) 0 z); tables = rw (q, ne-eqb (r .refusal) 0 z, ne-eqb (r .refusal) 0 z); marks-left = rw (q, ne-eqb (r .refusal) 0 z, ne-eqb (r .refusal) 0 z) }
+    let n : nodeRefusal m t (d .work) (d .position) sphere ≡ r .refusal = sym (T .refusal-is ∙ ap (nodeRefusal m t (d .work) (d .position)) own) in
+    let q = look-refuses m marks n z in
+    let f = ne-eqb (r .refusal) 0 z in
+    record { answer = rw (q, f); tables = rw (q, f); marks-left = rw (q, f) }
 
 module _ {m : Mesh} {t : Tables} {bytes : List ℕ} {d : Node} {st li fa nu : List ℕ} {r : Found} (S : Starable m t bytes d st li fa nu r)
     (own : answersOf (d .handed) bytes ≡ sphere) (marks : List ℕ) where
@@ -187,18 +180,20 @@ module _ {m : Mesh} {t : Tables} {bytes : List ℕ} {d : Node} {st li fa nu : Li
   count = S .admitted .node .cells-are
 
   pub looked-short : length marks < d .cells → NodeLooked m t (d .work) (d .position) marks (LookRefused 10) t marks
-  unfolding lookUnless nodeLookRefusal
+  unfolding lookUnless
   looked-short h =
+      let q = look-passes m marks accepted in
       let f = lt-ltb (length marks) (m .cells) (omega (arith, h, count)) in
-      record { answer = rw (accepted, f); tables = rw (accepted, f); marks-left = rw (accepted, f) }
+      record { answer = rw (q, f); tables = rw (q, f); marks-left = rw (q, f) }
 
   pub looked-reported : d .cells ≤ length marks → {g : Report} {marks′ : List ℕ} → g ≡ reportWith m r → marks′ ≡ over (stateMarks (d .cells) st) marks →
       NodeLooked m t (d .work) (d .position) marks (Reported g) t marks′
-  unfolding lookUnless nodeLookRefusal
+  unfolding lookUnless
   looked-reported h eg em =
+      let q = look-passes m marks accepted in
       let f = le-ltb (length marks) (m .cells) (omega (arith, h, count)) in
       record {
-        answer = rw (accepted, f) (ap Reported (eg ∙ (report-is S ∙ ap (reportOf m t p) own)));
-        tables = rw (accepted, f);
-        marks-left = rw (accepted, f) (em ∙ ap (λ l. over l marks) (marks-are S ∙ ap (cavityMarks m t p) own));
+        answer = rw (q, f) (ap Reported (eg ∙ (report-is S ∙ ap (reportOf m t p) own)));
+        tables = rw (q, f);
+        marks-left = rw (q, f) (em ∙ ap (λ l. over l marks) (marks-are S ∙ ap (cavityMarks m t p) own));
       }

@@ -18,16 +18,17 @@ use Rattle.geometry.proofs.Ranges.{box-in}
 use Rattle.mesh.specs.declared.Mesh.{Mesh}
 use Rattle.mesh.specs.Tables.{Tables, pointCapacity, cellCapacity, cleared, point}
 use Rattle.mesh.specs.Mesh.{IsMesh}
-use Rattle.mesh.proofs.Checked.{same-position-yes}
 use Rattle.mesh.specs.Check.{legalBox, isMesh}
 use Rattle.mesh.specs.Start.{short}
 use Rattle.mesh.specs.Refusal.{meshRefusal}
+use Rattle.mesh.proofs.Checked.{same-position-yes}
 use Rattle.locate.specs.Locate.{holds}
 use Rattle.cavity.specs.Answers.{Answers}
 use Rattle.insertion.specs.declared.Report.{Report}
 use Rattle.insertion.specs.declared.Inserted.{Inserted}
 use Rattle.insertion.specs.declared.Inserted.the-variants.{Accepted, Refused}
-use Rattle.insertion.specs.Insertion.{cellsMade, nodeRefusal, fewerBytes, insertRefusal, reportOf, insertedMesh, insertedTables, insertUnless, insertNode, insertCall, InsertLeaves}
+use Rattle.insertion.specs.Insertion.{cellsMade, nodeRefusal, fewerBytes, firstOf, insertRefusal, reportOf, insertedMesh, insertedTables, insertUnless, insertNode, insertCall, InsertLeaves}
+use Rattle.insertion.specs.Look.{cavityMarks, lookRefusal, beginsWith, markedRefusal}
 
 -- a record and tables are a mesh for a work area of w entries
 abbrev pub MeshFor : Mesh → Tables → ℕ → Type 0
@@ -46,15 +47,59 @@ chain≤ : (b : Bool) {k r n : ℕ} → k ≤ n → r ≤ n → cond b k r ≤ n
 chain≤ true h l = h
 chain≤ false h l = l
 
--- one test, and then another where it lets pass: both do
-pub both-pass : (r k : ℕ) → cond (eqb r 0) k r ≡ 0 → (r ≡ 0) × (k ≡ 0)
+-- ---- the first of two refusals
+
+pub first-refuses : {r e : ℕ} (k : ℕ) → r ≡ e → e ≢ 0 → firstOf r k ≡ e
+first-refuses {e = e} k q d = rw (q, ne-eqb e 0 d)
+
+pub first-passes : {r : ℕ} (k : ℕ) → r ≡ 0 → firstOf r k ≡ k
+first-passes k q = rw q
+
+pub both-pass : (r k : ℕ) → firstOf r k ≡ 0 → (r ≡ 0) × (k ≡ 0)
 both-pass r k e = go (ℕ-discrete r 0)
   where
     go : Dec (r ≡ 0) → (r ≡ 0) × (k ≡ 0)
     go (yes z) = (z, rw z at e)
     go (no d) = absurd (d (rw (ne-eqb r 0 d) at e))
 
--- what a refusal or none answers and leaves
+-- of a look: r is the insertion's
+module _ (m : Mesh) (marks : List ℕ) where
+  abbrev shortMarks : ℕ
+  shortMarks = cond (ltb (length marks) (m .cells)) 10 0
+
+  module _ {r : ℕ} where
+    pub look-refuses : {e : ℕ} → r ≡ e → e ≢ 0 → lookRefusal r m marks ≡ e
+    unfolding lookRefusal
+    look-refuses q d = first-refuses shortMarks q d
+
+    pub look-passes : r ≡ 0 → lookRefusal r m marks ≡ shortMarks
+    unfolding lookRefusal
+    look-passes q = first-passes shortMarks q
+
+    pub look-passed : lookRefusal r m marks ≡ 0 → (r ≡ 0) × (shortMarks ≡ 0)
+    unfolding lookRefusal
+    look-passed q = both-pass r shortMarks q
+
+-- and of an insertion with marks: r is the plain one's
+module _ (m : Mesh) (t : Tables) (p : Position) (a : Answers) (marks : List ℕ) where
+  abbrev otherMarks : ℕ
+  otherMarks = cond (beginsWith (cavityMarks m t p a) marks) 0 14
+
+  module _ {r : ℕ} where
+    pub marked-refuses : {e : ℕ} → r ≡ e → e ≢ 0 → markedRefusal r m t p a marks ≡ e
+    unfolding markedRefusal
+    marked-refuses q d = first-refuses otherMarks q d
+
+    pub marked-passes : r ≡ 0 → markedRefusal r m t p a marks ≡ otherMarks
+    unfolding markedRefusal
+    marked-passes q = first-passes otherMarks q
+
+    pub marked-passed : markedRefusal r m t p a marks ≡ 0 → (r ≡ 0) × (otherMarks ≡ 0)
+    unfolding markedRefusal
+    marked-passed q = both-pass r otherMarks q
+
+-- ---- what a refusal or none answers and leaves
+
 module _ (m : Mesh) (t : Tables) (p : Position) (a : Answers) {r : ℕ} where
   pub unless-accepted : r ≡ 0 →
       insertUnless r m t p a ≡ record { answer = Accepted (insertedMesh m t p a) (reportOf m t p a); tables = insertedTables m t p a }
@@ -64,6 +109,30 @@ module _ (m : Mesh) (t : Tables) (p : Position) (a : Answers) {r : ℕ} where
   pub unless-refused : {k : ℕ} → r ≡ k → k ≢ 0 → insertUnless r m t p a ≡ record { answer = Refused k; tables = t }
   unfolding insertUnless
   unless-refused {k} e d = rw (e, ne-eqb k 0 d)
+
+  -- and back: an answer with a report
+  pub accepted-unless : {m′ : Mesh} {g : Report} → Accepted m′ g ≡ insertUnless r m t p a .answer →
+      (r ≡ 0) × ((m′ ≡ insertedMesh m t p a) × (insertUnless r m t p a .tables ≡ insertedTables m t p a))
+  accepted-unless {m′} {g} e = go (ℕ-discrete r 0)
+    where
+      go : Dec (r ≡ 0) → (r ≡ 0) × ((m′ ≡ insertedMesh m t p a) × (insertUnless r m t p a .tables ≡ insertedTables m t p a))
+      go (yes h) =
+          let q = unless-accepted h in
+          let f : Accepted m′ g ≡ Accepted (insertedMesh m t p a) (reportOf m t p a) = e ∙ ap (λ l. l .answer) q in
+          (h, (cc, ap (λ l. l .tables) q))
+      go (no h) =
+          let f : Accepted m′ g ≡ Refused r = e ∙ ap (λ l. l .answer) (unless-refused refl h) in
+          let z : _≡_ {A = ℕ} 0 1 = cc in absurd (omega arith)
+
+  -- and one with a number
+  pub refused-unless : {e : ℕ} → Refused e ≡ insertUnless r m t p a .answer → (r ≢ 0) × (r ≡ e)
+  refused-unless {e} q = go (ℕ-discrete r 0)
+    where
+      go : Dec (r ≡ 0) → (r ≢ 0) × (r ≡ e)
+      go (yes h) =
+          let f : Refused e ≡ Accepted (insertedMesh m t p a) (reportOf m t p a) = q ∙ ap (λ l. l .answer) (unless-accepted h) in
+          let z : _≡_ {A = ℕ} 0 1 = cc in absurd (omega arith)
+      go (no h) = let f : Refused e ≡ Refused r = q ∙ ap (λ l. l .answer) (unless-refused refl h) in (h, cc)
 
 module _ (m : Mesh) (t : Tables) (w : ℕ) (p : Position) (a : Answers) where
   abbrev inside : Bool
@@ -162,49 +231,38 @@ module _ (m : Mesh) (t : Tables) (w : ℕ) (p : Position) (a : Answers) where
   tests-passed e = both-pass firstThree (nodeRefusal m t w p a) e
 
   -- a call that tests 1 to 3 refuse
+  pub first-three : {k : ℕ} → firstThree ≡ k → k ≢ 0 → insertRefusal m t w p a ≡ k
+  unfolding insertRefusal
+  first-three e d = first-refuses (nodeRefusal m t w p a) e d
+
   pub call-refused : {k : ℕ} → firstThree ≡ k → k ≢ 0 → insertCall m t w p a ≡ record { answer = Refused k; tables = t }
-  unfolding insertCall insertRefusal
-  call-refused {k} e d = unless-refused m t p a (rw (e, ne-eqb k 0 d)) d
+  unfolding insertCall
+  call-refused e d = unless-refused m t p a (first-three e d) d
 
   -- and one that they let pass
+  pub left-to-node : firstThree ≡ 0 → insertRefusal m t w p a ≡ nodeRefusal m t w p a
+  unfolding insertRefusal
+  left-to-node e = first-passes (nodeRefusal m t w p a) e
+
   pub call-is-node : firstThree ≡ 0 → insertCall m t w p a ≡ insertNode m t w p a
-  unfolding insertCall insertNode insertRefusal
-  call-is-node e = rw e
+  unfolding insertCall insertNode
+  call-is-node e = ap (λ r. insertUnless r m t p a) (left-to-node e)
 
   -- an answer with a report: no test failed, and the record is the definition's
   pub accepted-node : {m′ : Mesh} {r : Report} → Accepted m′ r ≡ insertNode m t w p a .answer →
       (nodeRefusal m t w p a ≡ 0) × ((m′ ≡ insertedMesh m t p a) × (insertNode m t w p a .tables ≡ insertedTables m t p a))
-  accepted-node {m′} {r} e = go (ℕ-discrete (nodeRefusal m t w p a) 0)
-    where
-      go : Dec (nodeRefusal m t w p a ≡ 0) → (nodeRefusal m t w p a ≡ 0) × ((m′ ≡ insertedMesh m t p a) × (insertNode m t w p a .tables ≡ insertedTables m t p a))
-      go (yes h) =
-          let q = node-accepted h in
-          let f : Accepted m′ r ≡ Accepted (insertedMesh m t p a) (reportOf m t p a) = e ∙ ap (λ l. l .answer) q in
-          (h, (cc, ap (λ l. l .tables) q))
-      go (no h) =
-          let f : Accepted m′ r ≡ Refused (nodeRefusal m t w p a) = e ∙ ap (λ l. l .answer) (node-refused refl h) in
-          let z : _≡_ {A = ℕ} 0 1 = cc in absurd (omega arith)
+  unfolding insertNode
+  accepted-node e = accepted-unless m t p a e
 
   -- of a call: tests 1 to 3 let it pass
   pub accepted-call : {m′ : Mesh} {r : Report} → Accepted m′ r ≡ insertCall m t w p a .answer → firstThree ≡ 0
-  accepted-call {m′} {r} e = go (ℕ-discrete firstThree 0)
-    where
-      go : Dec (firstThree ≡ 0) → firstThree ≡ 0
-      go (yes h) = h
-      go (no h) =
-          let f : Accepted m′ r ≡ Refused firstThree = e ∙ ap (λ l. l .answer) (call-refused refl h) in
-          let z : _≡_ {A = ℕ} 0 1 = cc in absurd (omega arith)
+  unfolding insertCall
+  accepted-call e = tests-passed (accepted-unless m t p a e .0) .0
 
   -- an answer without one: the number is the refusal's
   pub refused-number : {e : ℕ} → Refused e ≡ insertNode m t w p a .answer → nodeRefusal m t w p a ≡ e
-  refused-number {e} q = go (ℕ-discrete (nodeRefusal m t w p a) 0)
-    where
-      go : Dec (nodeRefusal m t w p a ≡ 0) → nodeRefusal m t w p a ≡ e
-      go (yes h) =
-          let f : Refused e ≡ Accepted (insertedMesh m t p a) (reportOf m t p a) = q ∙ ap (λ l. l .answer) (node-accepted h) in
-          let z : _≡_ {A = ℕ} 0 1 = cc in absurd (omega arith)
-      go (no h) =
-          let f : Refused e ≡ Refused (nodeRefusal m t w p a) = q ∙ ap (λ l. l .answer) (node-refused refl h) in cc
+  unfolding insertNode
+  refused-number q = refused-unless m t p a q .1
 
 -- ---- the contract of a call
 

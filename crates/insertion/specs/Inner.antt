@@ -6,7 +6,7 @@ use mathlib.Core.Logic.{_≢_}
 use mathlib.Core.Path.{_≡_}
 use lib.Dec.{ltb, eqb}
 use lib.ListN.{length, getD}
-use Rattle.arith.specs.Table.{tabulate, anyBelow}
+use Rattle.arith.specs.Table.{anyBelow}
 use Rattle.geometry.specs.declared.Position.{Position}
 use Rattle.geometry.specs.Volume.{inBox, samePosition}
 use Rattle.mesh.specs.declared.Mesh.{Mesh}
@@ -25,9 +25,9 @@ use Rattle.insertion.specs.declared.Inserted.{Inserted}
 use Rattle.insertion.specs.declared.Inserted.the-variants.{Accepted}
 use Rattle.insertion.specs.declared.Listed.{Listed}
 use Rattle.insertion.specs.declared.Looked.{Looked}
-use Rattle.insertion.specs.Insertion.{Result, nodeRefusal, insertUnless, insertNode}
+use Rattle.insertion.specs.Insertion.{Result, nodeRefusal, insertUnless}
 use Rattle.insertion.specs.List.{listedCount, insertFrom}
-use Rattle.insertion.specs.Look.{cavityMarks, lookUnless, beginsWith}
+use Rattle.insertion.specs.Look.{marksOf, lookRefusal, LookResult, lookUnless, beginsWith, markedRefusal}
 
 -- one of the first np codes is 0: a point lies at the position
 unfoldable pub someZero : List ℕ → ℕ → Bool
@@ -95,8 +95,8 @@ acceptedWith m r =
 -- ---- marks
 
 -- the marks of n cells with the states st
-unfoldable pub stateMarks : ℕ → List ℕ → List ℕ
-stateMarks n st = tabulate n (λ c. cond (inside st c) 1 0)
+abbrev pub stateMarks : ℕ → List ℕ → List ℕ
+stateMarks n st = marksOf n (inside st)
 
 -- no marks are asked for, or these are those of n cells with the states st
 unfoldable pub marksAllow : Bool → ℕ → List ℕ → List ℕ → Bool
@@ -105,13 +105,11 @@ marksAllow asked n st marks = not asked || beginsWith (stateMarks n st) marks
 -- refusals 4 to 8 and, where marks are asked for, 14
 abbrev pub refusalWith : Bool → List ℕ → Mesh → Tables → ℕ → Position → Answers → ℕ
 refusalWith false marks m t w p a = nodeRefusal m t w p a
-refusalWith true marks m t w p a =
-    let r = nodeRefusal m t w p a in cond (eqb r 0) (cond (beginsWith (cavityMarks m t p a) marks) 0 14) r
+refusalWith true marks m t w p a = markedRefusal (nodeRefusal m t w p a) m t p a marks
 
 -- a node after tests 1 to 3, with marks where they are asked for
 abbrev pub insertNodeWith : Bool → List ℕ → Mesh → Tables → ℕ → Position → Answers → Result Inserted
-insertNodeWith false marks m t w p a = insertNode m t w p a
-insertNodeWith true marks m t w p a = insertUnless (refusalWith true marks m t w p a) m t p a
+insertNodeWith asked marks m t w p a = insertUnless (refusalWith asked marks m t w p a) m t p a
 
 -- what it answers and leaves
 pub record AttemptLeaves (asked : Bool) (marks : List ℕ) (m : Mesh) (t : Tables) (w : ℕ) (p : Position) (a : Answers) (r : Attempt) (t′ : Tables) : Type 0 where
@@ -119,16 +117,15 @@ pub record AttemptLeaves (asked : Bool) (marks : List ℕ) (m : Mesh) (t : Table
   pub answer : r .inserted ≡ insertNodeWith asked marks m t w p a .answer
   pub tables : t′ ≡ insertNodeWith asked marks m t w p a .tables
 
--- refusals 4 to 8 and 10 of a look
-unfoldable pub nodeLookRefusal : Mesh → Tables → ℕ → Position → List ℕ → ℕ
-nodeLookRefusal m t w p marks =
-    let r = nodeRefusal m t w p sphere in cond (eqb r 0) (cond (ltb (length marks) (m .cells)) 10 0) r
+-- a look after tests 1 to 3
+abbrev pub lookNode : Mesh → Tables → ℕ → Position → List ℕ → LookResult
+lookNode m t w p marks = lookUnless (lookRefusal (nodeRefusal m t w p sphere) m marks) m t p marks
 
--- what a look after tests 1 to 3 answers and leaves
+-- what it answers and leaves
 pub record NodeLooked (m : Mesh) (t : Tables) (w : ℕ) (p : Position) (marks : List ℕ) (r : Looked) (t′ : Tables) (marks′ : List ℕ) : Type 0 where
-  pub answer : r ≡ lookUnless (nodeLookRefusal m t w p marks) m t p marks .answer
-  pub tables : t′ ≡ lookUnless (nodeLookRefusal m t w p marks) m t p marks .tables
-  pub marks-left : marks′ ≡ lookUnless (nodeLookRefusal m t w p marks) m t p marks .marks
+  pub answer : r ≡ lookNode m t w p marks .answer
+  pub tables : t′ ≡ lookNode m t w p marks .tables
+  pub marks-left : marks′ ≡ lookNode m t w p marks .marks
 
 -- ---- lists
 

@@ -46,10 +46,13 @@ unfoldable pub fewerBytes : Answers → ℕ → Bool
 fewerBytes sphere n = false
 fewerBytes (handed bytes) n = ltb (length bytes) n
 
+-- the first of two refusals; 0 is none
+abbrev pub firstOf : ℕ → ℕ → ℕ
+firstOf r k = cond (eqb r 0) k r
+
 -- refusals 1 to 8
 unfoldable pub insertRefusal : Mesh → Tables → ℕ → Position → Answers → ℕ
-insertRefusal m t w p a =
-    let r = meshRefusal m t w (fewerBytes a (m .cells)) in cond (eqb r 0) (nodeRefusal m t w p a) r
+insertRefusal m t w p a = firstOf (meshRefusal m t w (fewerBytes a (m .cells))) (nodeRefusal m t w p a)
 
 -- 'point number, spot size before and after correction, cells made, and the least T over the spot before correction'
 unfoldable pub reportOf : Mesh → Tables → Position → Answers → Report

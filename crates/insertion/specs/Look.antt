@@ -15,16 +15,20 @@ use Rattle.cavity.specs.Cavity.{inSet}
 use Rattle.insertion.specs.declared.Inserted.{Inserted}
 use Rattle.insertion.specs.declared.Looked.{Looked}
 use Rattle.insertion.specs.declared.Looked.the-variants.{Reported, Refused}
-use Rattle.insertion.specs.Insertion.{Result, lastCavity, insertRefusal, reportOf, insertUnless}
+use Rattle.insertion.specs.Insertion.{Result, lastCavity, firstOf, insertRefusal, reportOf, insertUnless}
+
+-- a byte for each of n cells
+abbrev pub marksOf : ℕ → (ℕ → Bool) → List ℕ
+marksOf n isMarked = tabulate n (λ c. cond (isMarked c) 1 0)
 
 -- 'marks each cell of the corrected spot with byte 1, all other cells with 0'
 unfoldable pub cavityMarks : Mesh → Tables → Position → Answers → List ℕ
-cavityMarks m t p a = tabulate (m .cells) (λ c. cond (inSet (lastCavity m t p a) c) 1 0)
+cavityMarks m t p a = marksOf (m .cells) (inSet (lastCavity m t p a))
 
--- 'it is refused where the insertion would be, and with 10 if the marks have fewer bytes than there are cells'
-unfoldable pub lookRefusal : Mesh → Tables → ℕ → Position → List ℕ → ℕ
-lookRefusal m t w p marks =
-    let r = insertRefusal m t w p sphere in cond (eqb r 0) (cond (ltb (length marks) (m .cells)) 10 0) r
+-- where the insertion's refusal is r: 'it is refused where the insertion would be, and with 10 if the marks have fewer bytes than there
+-- are cells'
+unfoldable pub lookRefusal : ℕ → Mesh → List ℕ → ℕ
+lookRefusal r m marks = firstOf r (cond (ltb (length marks) (m .cells)) 10 0)
 
 -- what a look answers, and the tables and marks that it leaves
 pub record LookResult : Type 0 where
@@ -42,7 +46,7 @@ lookUnless r m t p marks =
 
 -- the call
 unfoldable pub lookCall : Mesh → Tables → ℕ → Position → List ℕ → LookResult
-lookCall m t w p marks = lookUnless (lookRefusal m t w p marks) m t p marks
+lookCall m t w p marks = lookUnless (lookRefusal (insertRefusal m t w p sphere) m marks) m t p marks
 
 -- what looking at p answers and leaves in the tables t, the work area ws and the marks
 pub record LookLeaves (m : Mesh) (t : Tables) (ws : List ℕ) (p : Position) (marks : List ℕ)
@@ -58,14 +62,14 @@ beginsWith [] bytes = true
 beginsWith (x ∷ expected) [] = false
 beginsWith (x ∷ expected) (b ∷ bytes) = eqb b x && beginsWith expected bytes
 
--- 'goes through only if a look now would mark the same': '14 if the marks differ or are too few, after 8'
-unfoldable pub markedRefusal : Mesh → Tables → ℕ → Position → List ℕ → ℕ
-markedRefusal m t w p marks =
-    let r = insertRefusal m t w p sphere in cond (eqb r 0) (cond (beginsWith (cavityMarks m t p sphere) marks) 0 14) r
+-- where the plain insertion's refusal is r: 'goes through only if a look now would mark the same'; '14 if the marks differ or are too
+-- few, after 8'
+unfoldable pub markedRefusal : ℕ → Mesh → Tables → Position → Answers → List ℕ → ℕ
+markedRefusal r m t p a marks = firstOf r (cond (beginsWith (cavityMarks m t p a) marks) 0 14)
 
 -- 'Its result equals the plain insertion.'
 unfoldable pub markedCall : Mesh → Tables → ℕ → Position → List ℕ → Result Inserted
-markedCall m t w p marks = insertUnless (markedRefusal m t w p marks) m t p sphere
+markedCall m t w p marks = insertUnless (markedRefusal (insertRefusal m t w p sphere) m t p sphere marks) m t p sphere
 
 -- what inserting p with marks answers and leaves in the tables t and the work area ws
 pub record MarkedLeaves (m : Mesh) (t : Tables) (ws : List ℕ) (p : Position) (marks : List ℕ)

@@ -60,8 +60,9 @@ fn look_node(
     if marks.len() < node.cells {
         return Looked::Refused(10);
     }
+    let seen = report(mesh, found);
     write_marks(node.cells, &state, marks);
-    Looked::Reported(report(mesh, found))
+    Looked::Reported(seen)
 }
 
 // Looks at the insertion of a node by the sphere test: its report, and a mark for each cell, 1 where it would be replaced.

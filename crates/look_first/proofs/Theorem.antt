@@ -11,7 +11,6 @@ use lib.Dec.{ltb, eqb}
 use lib.ListN.{length, getD, take}
 use lib.Seq.{take-at, getD-take}
 use Rattle.arith.proofs.Flags.{and-left, and-right, and-intro, fails}
-use Rattle.arith.proofs.Tables.{tabulate-length, tabulate-at}
 use Rattle.geometry.specs.declared.Position.{Position}
 use Rattle.mesh.specs.declared.Mesh.{Mesh}
 use Rattle.mesh.specs.Tables.{Tables}
@@ -25,10 +24,10 @@ use Rattle.insertion.specs.declared.Report.{Report}
 use Rattle.insertion.specs.declared.Inserted.{Inserted}
 use Rattle.insertion.specs.declared.Inserted.the-variants.{Accepted, Refused}
 use Rattle.insertion.specs.declared.Looked.the-variants.{Reported, Refused as LookRefused}
-use Rattle.insertion.specs.Insertion.{lastCavity, nodeRefusal, fewerBytes, insertRefusal, reportOf, insertedMesh, insertedTables, insertUnless, insertCall, InsertLeaves}
+use Rattle.insertion.specs.Insertion.{lastCavity, nodeRefusal, fewerBytes, firstOf, insertRefusal, reportOf, insertedMesh, insertedTables, insertUnless, insertCall, InsertLeaves}
 use Rattle.insertion.specs.Look.{cavityMarks, lookRefusal, lookUnless, lookCall, LookLeaves, beginsWith, markedRefusal, markedCall, MarkedLeaves}
-use Rattle.insertion.proofs.Refusals.{both-pass, unless-accepted, unless-refused, up-to-eight, tests-passed}
-use Rattle.insertion.proofs.Looking.{tables-stay}
+use Rattle.insertion.proofs.Refusals.{first-refuses, first-passes, look-refuses, look-passes, look-passed, marked-refuses, marked-passes, unless-accepted, unless-refused, refused-unless, up-to-eight, tests-passed}
+use Rattle.insertion.proofs.Looking.{marks-length, mark-at, tables-stay}
 use Rattle.located.specs.Claim.{Stands}
 use Rattle.located.specs.Parked.{OutsideCavity}
 use Rattle.located.proofs.Parked.{outside-stands, stands-outside}
@@ -56,12 +55,12 @@ taken-begins (x ∷ expected) (b ∷ bytes) e =
 -- ---- refusals
 
 -- a test that answers nothing leaves the one before
-then-none : (r : ℕ) → cond (eqb r 0) 0 r ≡ r
+then-none : (r : ℕ) → firstOf r 0 ≡ r
 then-none r = go (ℕ-discrete r 0)
   where
-    go : Dec (r ≡ 0) → cond (eqb r 0) 0 r ≡ r
-    go (yes z) = rw z
-    go (no d) = rw (ne-eqb r 0 d)
+    go : Dec (r ≡ 0) → firstOf r 0 ≡ r
+    go (yes z) = first-passes 0 z ∙ sym z
+    go (no d) = first-refuses 0 refl d
 
 module _ (m : Mesh) (t : Tables) (w : ℕ) (p : Position) where
   abbrev R : ℕ
@@ -71,26 +70,21 @@ module _ (m : Mesh) (t : Tables) (w : ℕ) (p : Position) where
   unfolding insertCall
   insert-accepted z = unless-accepted m t p sphere z
 
+  -- the number of a refusal
+  refused-number : (e : ℕ) → insertCall m t w p sphere .answer ≡ Refused e → (R ≢ 0) × (R ≡ e)
+  unfolding insertCall
+  refused-number e q = refused-unless m t p sphere (sym q)
+
   never-refused : R ≡ 0 → (e : ℕ) → insertCall m t w p sphere .answer ≢ Refused e
-  never-refused z e q =
-      let f : Accepted (insertedMesh m t p sphere) (reportOf m t p sphere) ≡ Refused e = sym (ap (λ l. l .answer) (insert-accepted z)) ∙ q in
-      let o : _≡_ {A = ℕ} 0 1 = cc in omega arith
+  never-refused z e q = refused-number e q .0 z
 
   insert-refused : R ≢ 0 → insertCall m t w p sphere ≡ record { answer = Refused R; tables = t }
   unfolding insertCall
   insert-refused d = unless-refused m t p sphere refl d
 
-  -- the number of a refusal
-  refused-number : (e : ℕ) → insertCall m t w p sphere .answer ≡ Refused e → (R ≢ 0) × (R ≡ e)
-  refused-number e q = go (ℕ-discrete R 0)
-    where
-      go : Dec (R ≡ 0) → (R ≢ 0) × (R ≡ e)
-      go (yes z) = absurd (never-refused z e q)
-      go (no d) = let f : Refused R ≡ Refused e = sym (ap (λ l. l .answer) (insert-refused d)) ∙ q in (d, cc)
-
   module _ (marks : List ℕ) where
     abbrev L : ℕ
-    L = lookRefusal m t w p marks
+    L = lookRefusal R m marks
 
     look-accepted : L ≡ 0 → lookCall m t w p marks ≡ record { answer = Reported (reportOf m t p sphere); tables = t; marks = over (cavityMarks m t p sphere) marks }
     unfolding lookCall lookUnless
@@ -120,20 +114,13 @@ module _ (m : Mesh) (t : Tables) (w : ℕ) (p : Position) where
 
     -- the look's number, by the insertion's
     where-refused : R ≢ 0 → L ≡ R
-    unfolding lookRefusal
-    where-refused d = rw (ne-eqb R 0 d)
+    where-refused d = look-refuses m marks refl d
 
     where-accepted : R ≡ 0 → L ≡ cond (ltb (length marks) (m .cells)) 10 0
-    unfolding lookRefusal
-    where-accepted z = rw z
-
-    -- a look that is accepted: so is the insertion, and the bytes are enough
-    both-accepted : L ≡ 0 → (R ≡ 0) × (cond {A = ℕ} (ltb (length marks) (m .cells)) 10 0 ≡ 0)
-    unfolding lookRefusal
-    both-accepted z = both-pass R (cond (ltb (length marks) (m .cells)) 10 0) z
+    where-accepted z = look-passes m marks z
 
     refused-alike : RefusedAlike m t w p marks
-    unfolding markedCall markedRefusal insertCall
+    unfolding markedCall insertCall
     refused-alike = record {
       look-too = λ e q. let h = refused-number e q in
           let z = where-refused (h .0) in
@@ -142,11 +129,11 @@ module _ (m : Mesh) (t : Tables) (w : ℕ) (p : Position) where
       ten = λ q. ten (look-number 10 q .1);
       too-few = λ h r q. few h (reported r q .0);
       marks-stay = λ e q. ap (λ l. l .marks) (look-refused (look-number e q .0));
-      marked-too = λ e q. let h = refused-number e q in ap (λ r. insertUnless r m t p sphere) (rw (ne-eqb R 0 (h .0)));
+      marked-too = λ e q. let h = refused-number e q in ap (λ r. insertUnless r m t p sphere) (marked-refuses m t p sphere marks refl (h .0));
     }
       where
         few : length marks < m .cells → L ≡ 0 → ⊥
-        few h z = omega (arith, rw (lt-ltb (length marks) (m .cells) h) at (both-accepted z .1))
+        few h z = omega (arith, rw (lt-ltb (length marks) (m .cells) h) at (look-passed m marks z .1))
 
         by-marks : (b : Bool) → b ≡ ltb (length marks) (m .cells) → (e : ℕ) → cond {A = ℕ} b 10 0 ≢ 0 → cond b 10 0 ≡ e → (e ≡ 10) × (length marks < m .cells)
         by-marks true f e d q = (sym q, ltb-true (length marks) (m .cells) (sym f))
@@ -174,7 +161,7 @@ module _ (m : Mesh) (t : Tables) (w : ℕ) (p : Position) where
 
 marks-long : (m : Mesh) (t : Tables) (p : Position) → length (cavityMarks m t p sphere) ≡ m .cells
 unfolding cavityMarks
-marks-long m t p = tabulate-length (m .cells) _
+marks-long m t p = marks-length (m .cells) (inSet (lastCavity m t p sphere))
 
 module _ (m : Mesh) (t : Tables) (w : ℕ) (p : Position) (seen : List ℕ) where
   abbrev expected : List ℕ
@@ -188,15 +175,15 @@ module _ (m : Mesh) (t : Tables) (w : ℕ) (p : Position) (seen : List ℕ) wher
       ap (λ r. insertUnless r m t p sphere) (rw b (then-none (insertRefusal m t v p sphere)))
 
   other-marks : insertRefusal m t w p sphere ≡ 0 → (marks : List ℕ) → counted m marks ≢ expected → markedCall m t w p marks ≡ record { answer = Refused 14; tables = t }
-  unfolding markedCall markedRefusal
+  unfolding markedCall
   other-marks z marks d =
       let b = fails (beginsWith expected marks) (λ b. d (sym (ap (λ n. take n marks) (marks-long m t p)) ∙ taken-begins expected marks b)) in
-      unless-refused m t p sphere (rw (z, b)) (λ o. omega arith)
+      unless-refused m t p sphere (marked-passes m t p sphere marks z ∙ rw b) (λ o. omega arith)
 
   module _ (z : insertRefusal m t w p sphere ≡ 0) (e : counted m seen ≡ expected) where
     mark-is : (c : ℕ) → c < m .cells → getD seen c 0 ≡ cond (inSet (lastCavity m t p sphere) c) 1 0
     unfolding cavityMarks
-    mark-is c h = sym (getD-take (m .cells) seen c 0 h) ∙ (ap (λ l. getD l c 0) e ∙ tabulate-at (m .cells) _ c 0 h)
+    mark-is c h = sym (getD-take (m .cells) seen c 0 h) ∙ (ap (λ l. getD l c 0) e ∙ mark-at (m .cells) (inSet (lastCavity m t p sphere)) c h)
 
     -- 1 or 0, and which of them says whether the cell is replaced
     marked : (c : ℕ) → c < m .cells → (getD seen c 0 ≡ 1) ⊎ (getD seen c 0 ≡ 0)
@@ -241,7 +228,7 @@ pub look-first : (m : Mesh) (t : Tables) (w : ℕ) (p : Position) (marks : List 
     AfterLook m t w p r (lookCall m t w p marks .marks)
 look-first m t w p marks r q =
     let h = reported m t w p marks r q in
-    let z = both-accepted m t w p marks (h .0) .0 in
+    let z = look-passed m marks (h .0) .0 in
     let e : counted m (lookCall m t w p marks .marks) ≡ cavityMarks m t p sphere =
     ap (λ l. take (m .cells) (l .marks)) (look-accepted m t w p marks (h .0)) ∙ take-at (cavityMarks m t p sphere) _ (m .cells) (marks-long m t p) in
     subst (λ r. AfterLook m t w p r (lookCall m t w p marks .marks)) (h .1) (after-look m t w p (lookCall m t w p marks .marks) z e)

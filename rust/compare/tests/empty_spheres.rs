@@ -2,13 +2,14 @@
 //! sphere test, with marks or without, whatever was looked at or refused between, no point lies strictly inside the sphere of any
 //! cell, and the correction of a cavity removes nothing.
 
-use std::collections::BTreeMap;
+mod common;
 
+use common::{looked, right_builds, Counts};
 use compare::call::{Answer, Call};
 use compare::guarded::GuardedTables;
 use compare::nodes::{self, Spread};
 use compare::spheres::NEAR_TIES;
-use compare::{Builder, Plain, Tuned};
+use compare::{Builder, Tuned};
 use plain::geometry::{exact_sum, float_sum};
 use plain::loaded::Loaded;
 use plain::random::Random;
@@ -93,19 +94,10 @@ impl Bed<'_> {
             6 => Call::InsertAnswers(vec![1; cells - 1], self.node(random)),
             7 => Call::InsertAnswers(vec![1; cells], taken),
             8 => Call::Look(vec![0; cells - random.index(2)], self.node(random)),
-            9 => self.looked(self.node(random)),
+            9 => looked(self.build, self.mesh, &self.tables, self.node(random)),
             10 => Call::InsertMarked(vec![2; cells], self.node(random)),
             _ => Call::InsertList([self.node(random), [x, y + 1, 0]].concat()),
         }
-    }
-
-    /// An insertion with the marks of a look.
-    fn looked(&self, p: Position) -> Call {
-        let mut marks = vec![0; self.mesh.cells as usize];
-        let mut tables = self.tables.clone();
-        self.build
-            .look(self.mesh, &mut tables.lend(), &mut marks, p);
-        Call::InsertMarked(marks, p)
     }
 
     /// Makes the call, and says what it is; or that its report has unequal counts.
@@ -159,8 +151,6 @@ fn situations(e: i128, t: f64) -> [(&'static str, bool); 4] {
     ]
 }
 
-type Counts = BTreeMap<&'static str, u64>;
-
 /// Every cell with every point; or a point that is strictly inside a cell's sphere.
 fn look_at_spheres(bed: &mut Bed, counts: &mut Counts) -> Result<(), String> {
     let mesh = Loaded::load(bed.mesh, &bed.tables.lend());
@@ -171,9 +161,7 @@ fn look_at_spheres(bed: &mut Bed, counts: &mut Counts) -> Result<(), String> {
             if e > 0 {
                 return Err(format!("{p:?} is inside the sphere of {corners:?}: {e}"));
             }
-            for (situation, occurs) in situations(e, float_sum(corners, p)) {
-                *counts.entry(situation).or_default() += u64::from(occurs);
-            }
+            counts.add(situations(e, float_sum(corners, p)));
         }
     }
     Ok(())
@@ -181,14 +169,14 @@ fn look_at_spheres(bed: &mut Bed, counts: &mut Counts) -> Result<(), String> {
 
 fn grow(bed: &mut Bed, calls: &[Call], counts: &mut Counts) -> Result<(), String> {
     for call in calls {
-        *counts.entry(bed.make(call)?).or_default() += 1;
+        counts.add([(bed.make(call)?, true)]);
     }
     look_at_spheres(bed, counts)
 }
 
 /// Many meshes, looked at as they grow.
 fn grown(build: &dyn Builder) -> Result<Counts, String> {
-    let mut counts = Counts::new();
+    let mut counts = Counts::default();
     for seed in 0..200 {
         let mut random = Random::new(seed);
         let (sides, places) = box_and_places(&mut random);
@@ -206,22 +194,12 @@ fn grown(build: &dyn Builder) -> Result<Counts, String> {
     Ok(counts)
 }
 
-fn holds_of(build: &dyn Builder) {
-    let counts = grown(build).expect("no point inside");
-    let missing: Vec<_> = counts.iter().filter(|(_, &count)| count == 0).collect();
-    assert!(missing.is_empty() && counts.len() == 14, "{missing:?}");
-}
-
 #[test]
-fn it_holds_of_plain_and_tuned() {
-    holds_of(&Plain::RIGHT);
-    holds_of(&Tuned);
-}
-
-#[cfg(feature = "archive")]
-#[test]
-fn it_holds_of_the_archive() {
-    holds_of(&compare::Archive);
+fn it_holds_of_each_right_build() {
+    for build in right_builds() {
+        let counts = grown(build.as_ref()).expect("no point inside");
+        counts.all_occur(14);
+    }
 }
 
 #[test]
@@ -253,7 +231,7 @@ fn handed_in(answer: u8, nodes: &[Position]) -> Bed<'static> {
 #[test]
 fn by_answers_handed_in_it_need_not_hold() {
     let mut bed = handed_in(0, &[[1, 2, 3]]);
-    let inside = look_at_spheres(&mut bed, &mut Counts::new()).unwrap_err();
+    let inside = look_at_spheres(&mut bed, &mut Counts::default()).unwrap_err();
     assert!(inside.starts_with("[1, 2, 3] is inside the sphere of "));
     // The history of one-round: the correction has work for a node that then goes in by the sphere test.
     let mut bed = handed_in(1, &[[1, 0, 0], [4, 1, 0]]);

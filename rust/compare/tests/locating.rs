@@ -1,7 +1,8 @@
 //! The random histories come to every situation in which builds of locate are likely to part.
 
-use std::collections::BTreeMap;
+mod common;
 
+use common::Counts;
 use compare::call::{Answer, Call, Left};
 use compare::generate::{History, Step};
 use compare::guarded::GuardedTables;
@@ -113,10 +114,10 @@ fn of_parked(before: &Held, now: &Held) -> Situations {
 }
 
 /// Each situation, and how often the histories come to it.
-fn counts(seed: u64, calls: u64) -> BTreeMap<&'static str, u64> {
+fn counts(seed: u64, calls: u64) -> Counts {
     let mut random = Random::new(seed);
     let mut history = History::new(&mut random);
-    let mut counts = BTreeMap::new();
+    let mut counts = Counts::default();
     let mut parked: Option<Held> = None;
     for _ in 0..calls {
         if history.is_over() {
@@ -138,9 +139,7 @@ fn counts(seed: u64, calls: u64) -> BTreeMap<&'static str, u64> {
         if let Some(before) = parked.filter(|before| before.is_before(&held)) {
             situations.extend(of_parked(&before, &held));
         }
-        for (situation, occurs) in situations {
-            *counts.entry(situation).or_insert(0) += u64::from(occurs);
-        }
+        counts.add(situations);
         parked = Some(held);
     }
     counts
@@ -148,8 +147,5 @@ fn counts(seed: u64, calls: u64) -> BTreeMap<&'static str, u64> {
 
 #[test]
 fn every_situation_occurs() {
-    let counts = counts(1, 60_000);
-    assert_eq!(counts.len(), 24);
-    let missing: Vec<_> = counts.iter().filter(|(_, &count)| count == 0).collect();
-    assert!(missing.is_empty(), "{missing:?}");
+    counts(1, 60_000).all_occur(24);
 }

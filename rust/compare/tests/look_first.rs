@@ -1,10 +1,13 @@
 //! What is proved of looks in crates/look_first, looked at on each build by itself: a look changes nothing but marks, and marks
 //! the cells that the node takes the place of; with its marks the insertion is the plain one, and with others it is refused.
 
-use std::collections::{BTreeMap, BTreeSet};
+mod common;
 
+use std::collections::BTreeSet;
+
+use common::{right_builds, Counts};
 use compare::nodes::{self, Spread};
-use compare::{Builder, Plain, Tuned};
+use compare::Builder;
 use plain::loaded::Loaded;
 use plain::random::Random;
 use plain::{Answers, Inserted, Looked, Mesh, Owned, Position, RightRules, Rules};
@@ -197,8 +200,6 @@ fn situations(bed: &Bed, look: &Look) -> [(&'static str, bool); 9] {
     ]
 }
 
-type Counts = BTreeMap<&'static str, u64>;
-
 /// Looks at a node, and says which law is broken; then a node goes in, this one or another.
 fn look_first(bed: &mut Bed, random: &mut Random, counts: &mut Counts) -> Result<(), &'static str> {
     let p = bed.node(random);
@@ -210,9 +211,7 @@ fn look_first(bed: &mut Bed, random: &mut Random, counts: &mut Counts) -> Result
             return Err(law);
         }
     }
-    for (situation, occurs) in situations(bed, &look) {
-        *counts.entry(situation).or_default() += u64::from(occurs);
-    }
+    counts.add(situations(bed, &look));
     let answers = nodes::answers(random, bed.mesh.cells as usize);
     let next = match random.below(3) {
         0 => bed.insert_marked(&look.marks, p),
@@ -224,7 +223,7 @@ fn look_first(bed: &mut Bed, random: &mut Random, counts: &mut Counts) -> Result
 
 /// Many looks, or the law that is broken first.
 fn many_looks(build: &dyn Builder) -> Result<Counts, &'static str> {
-    let mut counts = Counts::new();
+    let mut counts = Counts::default();
     for seed in 0..150 {
         let mut random = Random::new(seed);
         let mut bed = Bed::started(build, &mut random);
@@ -235,22 +234,12 @@ fn many_looks(build: &dyn Builder) -> Result<Counts, &'static str> {
     Ok(counts)
 }
 
-fn holds_of(build: &dyn Builder) {
-    let counts = many_looks(build).expect("every law");
-    let missing: Vec<_> = counts.iter().filter(|(_, &count)| count == 0).collect();
-    assert!(missing.is_empty() && counts.len() == 9, "{missing:?}");
-}
-
 #[test]
-fn it_holds_of_plain_and_tuned() {
-    holds_of(&Plain::RIGHT);
-    holds_of(&Tuned);
-}
-
-#[cfg(feature = "archive")]
-#[test]
-fn it_holds_of_the_archive() {
-    holds_of(&compare::Archive);
+fn they_hold_of_each_right_build() {
+    for build in right_builds() {
+        let counts = many_looks(build.as_ref()).expect("every law");
+        counts.all_occur(9);
+    }
 }
 
 #[test]

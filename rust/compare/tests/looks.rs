@@ -1,7 +1,8 @@
 //! The random histories come to every situation in which builds of a look, or of an insertion with marks, are likely to part.
 
-use std::collections::BTreeMap;
+mod common;
 
+use common::Counts;
 use compare::call::{Call, Left};
 use compare::generate::{History, Step};
 use compare::guarded::GuardedTables;
@@ -188,10 +189,10 @@ fn situations(step: &Step, left: &Left, looked: &Looked) -> Situations {
 }
 
 /// Each situation, and how often the histories come to it.
-fn counts(seed: u64, calls: u64) -> BTreeMap<&'static str, u64> {
+fn counts(seed: u64, calls: u64) -> Counts {
     let mut random = Random::new(seed);
     let mut history = History::new(&mut random);
-    let mut counts = BTreeMap::new();
+    let mut counts = Counts::default();
     let mut looked = None;
     for _ in 0..calls {
         if history.is_over() {
@@ -203,9 +204,7 @@ fn counts(seed: u64, calls: u64) -> BTreeMap<&'static str, u64> {
             .call
             .make(&Tuned, step.mesh, &GuardedTables::new(&step.tables));
         history.take(&step, &left);
-        for (situation, occurs) in situations(&step, &left, &looked) {
-            *counts.entry(situation).or_insert(0) += u64::from(occurs);
-        }
+        counts.add(situations(&step, &left, &looked));
         match step.call {
             Call::Look(_, p) if step.is_kept && left.answer.outcome() == 0 => {
                 looked = Some((p, left.others.output.lent().to_vec()));
@@ -218,8 +217,5 @@ fn counts(seed: u64, calls: u64) -> BTreeMap<&'static str, u64> {
 
 #[test]
 fn every_situation_occurs() {
-    let counts = counts(1, 60_000);
-    assert_eq!(counts.len(), 52);
-    let missing: Vec<_> = counts.iter().filter(|(_, &count)| count == 0).collect();
-    assert!(missing.is_empty(), "{missing:?}");
+    counts(1, 60_000).all_occur(52);
 }

@@ -1,7 +1,10 @@
 //! The random pairs of files come to every situation in which builds of a merge are likely to part.
 
-use std::collections::{BTreeMap, HashSet};
+mod common;
 
+use std::collections::HashSet;
+
+use common::Counts;
 use compare::call::Merge;
 use compare::merges::merge;
 use plain::loaded::box_corner;
@@ -111,13 +114,9 @@ fn situations(lent: &Merge) -> Situations {
 #[test]
 fn every_situation_occurs() {
     let mut random = Random::new(1);
-    let mut counts = BTreeMap::new();
+    let mut counts = Counts::default();
     for _ in 0..20_000 {
-        for (situation, occurs) in situations(&merge(&mut random)) {
-            *counts.entry(situation).or_insert(0) += usize::from(occurs);
-        }
+        counts.add(situations(&merge(&mut random)));
     }
-    assert_eq!(counts.len(), 29);
-    let missing: Vec<_> = counts.iter().filter(|(_, &count)| count == 0).collect();
-    assert!(missing.is_empty(), "{missing:?}");
+    counts.all_occur(29);
 }

@@ -2,13 +2,16 @@
 //! the same cell by its corners, unless it was in a corrected cavity: the parked head. And it is the same in tables that have
 //! the same cells in another order.
 
-use std::collections::{BTreeMap, BTreeSet};
+mod common;
 
+use std::collections::BTreeSet;
+
+use common::{looked, right_builds, Counts};
 use compare::call::Call;
 use compare::generate::rearrange;
 use compare::guarded::GuardedTables;
 use compare::nodes::{self, Spread};
-use compare::{Builder, Plain, Tuned};
+use compare::Builder;
 use plain::cavity::Cavity;
 use plain::loaded::Loaded;
 use plain::random::Random;
@@ -90,22 +93,13 @@ impl Bed<'_> {
     fn insertion(&self, random: &mut Random) -> Call {
         match random.below(4) {
             0 => Call::Insert(self.node(random)),
-            1 => self.looked(self.node(random)),
+            1 => looked(self.build, self.mesh, &self.tables, self.node(random)),
             2 => {
                 let bytes = nodes::answers(random, self.mesh.cells as usize);
                 Call::InsertAnswers(bytes, self.node(random))
             }
             _ => Call::InsertList((0..4).flat_map(|_| self.node(random)).collect()),
         }
-    }
-
-    /// An insertion with the marks of a look.
-    fn looked(&self, p: Position) -> Call {
-        let mut marks = vec![0; self.mesh.cells as usize];
-        let mut tables = self.tables.clone();
-        self.build
-            .look(self.mesh, &mut tables.lend(), &mut marks, p);
-        Call::InsertMarked(marks, p)
     }
 
     /// Makes the call; the cells that were in a corrected cavity, by their corners.
@@ -156,8 +150,6 @@ fn situations(call: &Call, before: &Parked, after: &Parked) -> [(&'static str, b
     ]
 }
 
-type Counts = BTreeMap<&'static str, u64>;
-
 /// Parks heads, makes an insertion, and says where a head is in another cell then, though its own was not replaced.
 fn insert_elsewhere(bed: &mut Bed, random: &mut Random, counts: &mut Counts) -> Result<(), String> {
     let parked = bed.park(random);
@@ -175,16 +167,14 @@ fn insert_elsewhere(bed: &mut Bed, random: &mut Random, counts: &mut Counts) -> 
             let (p, one, other) = (before.p, before.corners, after.corners);
             return Err(format!("{p:?} was in {one:?}, and is in {other:?}"));
         }
-        for (situation, occurs) in situations(&call, before, &after) {
-            *counts.entry(situation).or_insert(0) += u64::from(occurs);
-        }
+        counts.add(situations(&call, before, &after));
     }
     Ok(())
 }
 
 /// Many insertions with heads that are parked.
 fn parked_heads(build: &dyn Builder) -> Result<Counts, String> {
-    let mut counts = Counts::new();
+    let mut counts = Counts::default();
     for seed in 0..150 {
         let mut random = Random::new(seed);
         let mut bed = Bed::started(build, &mut random);
@@ -228,17 +218,13 @@ fn any_order(build: &dyn Builder) -> Result<(), String> {
     Ok(())
 }
 
-fn holds_of(build: &dyn Builder) {
-    let counts = parked_heads(build).expect("heads stay");
-    let missing: Vec<_> = counts.iter().filter(|(_, &count)| count == 0).collect();
-    assert!(missing.is_empty() && counts.len() == 8, "{missing:?}");
-    any_order(build).expect("one cell");
-}
-
 #[test]
-fn it_holds_of_plain_and_tuned() {
-    holds_of(&Plain::RIGHT);
-    holds_of(&Tuned);
+fn both_hold_of_each_right_build() {
+    for build in right_builds() {
+        let counts = parked_heads(build.as_ref()).expect("heads stay");
+        counts.all_occur(8);
+        any_order(build.as_ref()).expect("one cell");
+    }
 }
 
 /// Whether heads stay in their cells, and whether the order of the cells does not matter, of each wrong build of locate.
@@ -256,10 +242,4 @@ fn which_law_each_wrong_build_breaks() {
         assert_eq!(parked_heads(build.as_ref()).is_ok(), stays, "{name}");
         assert_eq!(any_order(build.as_ref()).is_ok(), is_any_order, "{name}");
     }
-}
-
-#[cfg(feature = "archive")]
-#[test]
-fn it_holds_of_the_archive() {
-    holds_of(&compare::Archive);
 }

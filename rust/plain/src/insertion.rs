@@ -33,16 +33,7 @@ pub fn insert_with(
     answers: Answers,
     p: Position,
 ) -> Inserted {
-    let answer_bytes = match answers {
-        Answers::SphereTest => usize::MAX,
-        Answers::Given(bytes) => bytes.len(),
-    };
-    let answer = match mesh_refusal(rules, mesh, tables, answer_bytes) {
-        0 => insert_in_mesh(rules, mesh, tables, answers, p),
-        refusal => Err(refusal),
-    };
-    tables.work.fill(0);
-    answer.unwrap_or_else(|refusal| Inserted::refused(refusal, mesh))
+    insert_one(rules, mesh, tables, answers, None, p)
 }
 
 pub fn insert_marked_with(
@@ -52,8 +43,23 @@ pub fn insert_marked_with(
     marks: &[u8],
     p: Position,
 ) -> Inserted {
-    let answer = match mesh_refusal(rules, mesh, tables, usize::MAX) {
-        0 => insert_marked_in_mesh(rules, mesh, tables, marks, p),
+    insert_one(rules, mesh, tables, Answers::SphereTest, Some(marks), p)
+}
+
+fn insert_one(
+    rules: &dyn Rules,
+    mesh: Mesh,
+    tables: &mut Tables,
+    answers: Answers,
+    marks: Option<&[u8]>,
+    p: Position,
+) -> Inserted {
+    let answer_bytes = match answers {
+        Answers::SphereTest => usize::MAX,
+        Answers::Given(bytes) => bytes.len(),
+    };
+    let answer = match mesh_refusal(rules, mesh, tables, answer_bytes) {
+        0 => insert_in_mesh(rules, mesh, tables, answers, marks, p),
         refusal => Err(refusal),
     };
     tables.work.fill(0);
@@ -83,7 +89,7 @@ fn insert_nodes(rules: &dyn Rules, mut mesh: Mesh, tables: &mut Tables, nodes: &
     let mut place = 0;
     for node in nodes.chunks_exact(3) {
         let p = [node[0], node[1], node[2]];
-        match insert_in_mesh(rules, mesh, tables, Answers::SphereTest, p) {
+        match insert_in_mesh(rules, mesh, tables, Answers::SphereTest, None, p) {
             Ok(inserted) => mesh = inserted.mesh,
             Err(refusal) => {
                 return Listed {
@@ -108,27 +114,13 @@ fn insert_in_mesh(
     mesh: Mesh,
     tables: &mut Tables,
     answers: Answers,
+    marks: Option<&[u8]>,
     p: Position,
 ) -> Result<Inserted, u8> {
     let loaded = Loaded::load(mesh, tables);
     let found = find(rules, &loaded, tables, answers, p)?;
-    match found.is_too_large(tables) {
-        true => Err(8),
-        false => Ok(put_in(mesh, tables, &found)),
-    }
-}
-
-/// In tables that pass the mesh check.
-fn insert_marked_in_mesh(
-    rules: &dyn Rules,
-    mesh: Mesh,
-    tables: &mut Tables,
-    marks: &[u8],
-    p: Position,
-) -> Result<Inserted, u8> {
-    let loaded = Loaded::load(mesh, tables);
-    let found = find(rules, &loaded, tables, Answers::SphereTest, p)?;
-    match rules.last_refusal(found.is_too_large(tables), are_other(rules, &found, marks)) {
+    let are_other = marks.is_some_and(|marks| are_other(rules, &found, marks));
+    match rules.last_refusal(found.is_too_large(tables), are_other) {
         0 => Ok(put_in(mesh, tables, &found)),
         refusal => Err(refusal),
     }

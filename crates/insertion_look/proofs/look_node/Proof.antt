@@ -17,8 +17,8 @@ found-at c = c .before .before .before .before .before
 cast-if2 : tie.Need-cast-if2
 cast-if2 c = search needs
 
-cast-t17 : tie.Need-cast-t17
-cast-t17 c = search needs
+cast-t18 : tie.Need-cast-t18
+cast-t18 c = search needs
 
 slice-aggregate-find : tie.Need-slice-aggregate-find
 slice-aggregate-find c = search needs
@@ -49,33 +49,35 @@ returns c = looked-refused (c .before .before .before .before .before .find .ens
 returns-2 : tie.Need-returns-2
 returns-2 c = let e = c .before .before in looked-short (found-at e .find .ensures .starable (e .if1 .left)) refl _ (omega (arith, c .if2 .taken))
 
+report-requires : tie.Need-report-requires
+report-requires c κs =
+    let e = c .before .before in
+    report-asks (found-at e .find .ensures .starable (e .if1 .left))
+
 slice-aggregate-write-marks : tie.Need-slice-aggregate-write-marks
-slice-aggregate-write-marks c = sym (found-at (c .before .before .before) .find .kept .1 .1 .1 .1 .1 .1 .0)
+slice-aggregate-write-marks c = sym (found-at (c .before .before .before .before) .find .kept .1 .1 .1 .1 .1 .1 .0)
 
 write-marks-requires : tie.Need-write-marks-requires
 write-marks-requires c κs =
-    let e = c .before .before .before .before in
-    (states-long (found-at e .find .ensures .starable (e .if1 .left)), omega (arith, c .before .before .if2 .left))
-
-report-requires : tie.Need-report-requires
-report-requires c κs =
-    let e = c .before .before .before .before .before .before .before in
-    report-asks (found-at e .find .ensures .starable (e .if1 .left))
+    let e = c .before .before .before .before .before in
+    (states-long (found-at e .find .ensures .starable (e .if1 .left)), omega (arith, c .before .before .before .if2 .left))
 
 same-length : tie.Need-same-length
 same-length c = search needs
 
 returns-3 : tie.Need-returns-3
 returns-3 c =
-    let e = c .before .before .before .before .before .before .before .before in
-    looked-reported (found-at e .find .ensures .starable (e .if1 .left)) refl _ (omega (arith, c .before .before .before .before .before .before .if2 .left)) (c .report .ensures) (c .before .before .before .write-marks .ensures)
+    let written = c .before .before in
+    let told = written .before .before .before in
+    let e = told .before .before .before in
+    looked-reported (found-at e .find .ensures .starable (e .if1 .left)) refl _ (omega (arith, told .before .if2 .left)) (told .report .ensures) (written .write-marks .ensures)
 
 pub look-node-spec : {M : Type 1} → statement M
 look-node-spec =
     tie.close
     (tie.spec
     cast-if2
-    cast-t17
+    cast-t18
     slice-aggregate-find
     slice-aggregate-find-2
     slice-aggregate-find-3
@@ -84,8 +86,8 @@ look-node-spec =
     find-requires
     returns
     returns-2
+    report-requires
     slice-aggregate-write-marks
     write-marks-requires
-    report-requires
     same-length
     returns-3)

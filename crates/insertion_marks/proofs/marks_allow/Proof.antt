@@ -47,7 +47,8 @@ loop-less c = omega arith
 loop-again : tie.Need-loop-again Inv-loop μ-loop
 loop-again c =
     let l = c .before .before .before .before .before .loop in
-    (omega arith, matching-more _ _ _ (l .c) (omega arith) (omega arith) (l .inv .1) (omega (arith, c .if3 .left, c .before .mark-of .ensures)))
+    let a = c .before .before .before .before .before .before .before .before .before .before .args in
+    (omega arith, matching-more (a .n) (a .state .now) (a .marks .now) (l .c) (omega arith) (omega arith) (l .inv .1) (omega (arith, c .if3 .left, c .before .mark-of .ensures)))
 
 returns-4 : tie.Need-returns-4 Inv-loop μ-loop
 returns-4 c =

@@ -6,6 +6,7 @@ use mathlib.Core.List.{_++_}
 use lib.ListN.{length, take, drop, set, length-set}
 use borrow.Author.Needs.{needs}
 use Rattle.mesh.proofs.Loops.{copy-more, copy-all}
+use Rattle.cavity.specs.Inner.{inside}
 use Rattle.insertion.specs.Inner.{stateMarks}
 use Rattle.insertion.proofs.Looking.{marks-length, mark-at}
 use Rattle.insertion_marks.proofs.write_marks.Statement.{statement}
@@ -39,8 +40,8 @@ loop-again : tie.Need-loop-again Inv-loop μ-loop
 loop-again c =
     let l = c .before .before .before .loop in
     let a = c .before .before .before .before .before .before .args in
-    let n = marks-length (a .n) (a .state .now) in
-    let e = c .mark-of .ensures ∙ sym (mark-at (a .n) (a .state .now) (l .c) (omega arith)) in
+    let n = marks-length (a .n) (inside (a .state .now)) in
+    let e = c .mark-of .ensures ∙ sym (mark-at (a .n) (inside (a .state .now)) (l .c) (omega arith)) in
     (omega arith, simp length-set (l .inv .1), (λ j. set (l .inv .2 j) (l .c) (e j)) ∙ copy-more (l .c) (stateMarks (a .n) (a .state .now)) (a .marks .now) (omega arith) (omega arith))
 
 same-length : tie.Need-same-length Inv-loop μ-loop
@@ -50,7 +51,7 @@ returns : tie.Need-returns Inv-loop μ-loop
 returns c =
     let l = c .before .loop in
     let a = c .before .before .before .before .args in
-    let n = marks-length (a .n) (a .state .now) in
+    let n = marks-length (a .n) (inside (a .state .now)) in
     copy-all (l .c) _ _ _ (l .inv .2) (omega arith) (omega arith)
 
 pub write-marks-spec : {M : Type 1} → statement M
