@@ -5,7 +5,7 @@
  * answers and leaves in every lent entry is proved (crates/gantry_numbers/specs). All memory is the caller's and is lent for one
  * call: a pointer, then the number of entries behind it. A pointer is aligned for its type, and not NULL even where the length is 0;
  * the areas lent to one call do not overlap, unless both are only read, and no other thread touches them meanwhile. The caller sees to
- * that: it is assumed, not proved. A call takes less than 40 KiB of stack, which is not proved either: the gate holds the archive to it.
+ * that: it is assumed, not proved. A call takes less than 52 KiB of stack, which is not proved either: the gate holds the archive to it.
  *
  * Link with libgantry.a alone ('rt staticlib gantry' writes it, for x86-64 Linux); it takes memcpy and memset from the C library.
  */
@@ -26,7 +26,7 @@ extern "C" {
  * 7 is never answered: that is proved, as never-seven in crates/covering.
  */
 #define GANTRY_ACCEPTED 0
-#define GANTRY_SHORT 1          /* room for fewer than 8 points or 6 cells, or fewer answer bytes than cells */
+#define GANTRY_SHORT 1          /* room for fewer than 8 points or 6 cells, or fewer answer bytes than the used length */
 #define GANTRY_BOX 2            /* a side is 0 or above 131,072 */
 #define GANTRY_NO_MESH 3        /* record and tables fail the mesh check */
 #define GANTRY_OUTSIDE 4        /* a position outside the box; in the sphere test, a coordinate above 131,072 */
@@ -44,14 +44,15 @@ extern "C" {
 #define GANTRY_SPHERE_INSIDE 1
 #define GANTRY_SPHERE_OUTSIDE 2
 
-#define GANTRY_NONE 65535                      /* in the neighbour table: no neighbour */
+#define GANTRY_NONE 65535                      /* no neighbour; a corner of a freed cell number; the end of the chain */
 #define GANTRY_VOLUME_NONE ((int64_t)1 << 62)  /* gantry_volume6 with a coordinate outside 0 to 131,072 */
 
 /*
- * The record of a mesh: sides, point count, cell count. The caller keeps it beside the tables, hands it to each call, and goes on
- * with the one in the answer.
+ * The record of a mesh: sides, point count, cell count, the first of the chain of freed cell numbers (GANTRY_NONE where none is freed), and
+ * the used length: every cell's number is below it. The caller keeps it beside the tables, hands it to each call, and goes on with the one
+ * in the answer. chain and used are the library's: hand them on, and never write them.
  */
-typedef struct { uint32_t x, y, z, points, cells; } gantry_mesh;
+typedef struct { uint32_t x, y, z, points, cells, chain, used; } gantry_mesh;
 
 /*
  * Answers. refusal is 0 where the call was accepted. In a refusal, mesh is the record as it then stands, and a field without
@@ -77,20 +78,39 @@ typedef struct { uint8_t refusal; uint32_t bytes; } gantry_written;
  * A length is in entries, not in bytes. points_len / 3 is the room for points: 8 or more, and 1,024 at most are used. The least of
  * corners_len / 4, neighbours_len / 4 and work_len / 3 is the room for cells: 6 or more, and 4,096 at most are used. An insertion
  * counts the old cells and the new ones together, so leave room for more cells than the mesh ends with. Less room than the record
- * has points or cells is no mesh (3). Entries past the mesh's own may hold anything.
+ * has points, or less than its used length, is no mesh (3). Entries past the point count and the used length may hold anything.
  */
 #define GANTRY_TABLES                                                              \
     uint32_t *points, size_t points_len, uint16_t *corners, size_t corners_len,    \
     uint16_t *neighbours, size_t neighbours_len, uint16_t *work, size_t work_len
 
-/* The mesh of a box: its eight corners and six cells. Refusals 1 2. */
+/*
+ * Cell numbers stay. An insertion replaces the cells of its corrected cavity; where it goes by the sphere test, a look names them before, by
+ * a mark of 1. Every other cell keeps its number and its four corners. Its neighbours are the same too, but where a replaced cell was across
+ * a face: there it names a new one.
+ *
+ * The numbers of replaced cells are freed, and cells that later insertions make take them, the last freed first, before the table grows.
+ * So there may be gaps: a number below the used length is a cell's, or it is freed. The four corners of a freed number are GANTRY_NONE; its
+ * first neighbour is the next number on the chain, GANTRY_NONE at the end, and the other three are GANTRY_NONE. In a mesh the first corner
+ * tells, and this visits the cells by rising number:
+ *
+ *     for (uint32_t c = 0; c < mesh.used; c++) {
+ *         if (corners[4 * c] == GANTRY_NONE)
+ *             continue;
+ *         visit(c, corners + 4 * c, neighbours + 4 * c);
+ *     }
+ *
+ * So a stored number is good until its cell is replaced. That can be seen afterwards too: a new cell has the new point as a corner, so a
+ * number is that of the same cell as long as its four corners are below the point count at which it was stored; a freed number's are not.
+ */
+
+/* The mesh of a box: its eight corners and six cells; chain GANTRY_NONE, used 6. Refusals 1 2. */
 gantry_started gantry_start(uint32_t x, uint32_t y, uint32_t z, GANTRY_TABLES);
 
 /*
  * Inserts one node, by the sphere test. The answer has the node's point number, how many cells its cavity had before and
  * after correction, how many cells were made, and the least T over the cavity before correction; T is a float and may be 0 or
- * below (see gantry_sphere_test). Cell numbers change: a cell number from an earlier call is of no use afterwards. Point numbers
- * stay, so a cell can be kept by its four corners. Refusals 1 to 8.
+ * below (see gantry_sphere_test). Point numbers stay, and so do the numbers of the cells outside the cavity. Refusals 1 to 8.
  *
  * While all nodes since the start have gone in by the sphere test, here or in a list, no point of the mesh lies strictly inside the
  * sphere of any cell, and the correction removes nothing: before and after are equal. Refused calls of any kind may stand between. That
@@ -100,22 +120,23 @@ gantry_started gantry_start(uint32_t x, uint32_t y, uint32_t z, GANTRY_TABLES);
 gantry_inserted gantry_insert(gantry_mesh mesh, GANTRY_TABLES, uint32_t x, uint32_t y, uint32_t z);
 
 /*
- * The same by answers handed in, one byte a cell: nonzero where the node counts as inside the cell's sphere. least is 0.0. Any answers
- * leave a mesh; but once a node has gone in so, nothing is promised of points and spheres.
+ * The same by answers handed in, one byte for each number below the used length: nonzero where the node counts as inside the cell's sphere;
+ * a freed number's is ignored. Fewer bytes are refused with 1. least is 0.0. Any answers leave a mesh; but once a node has gone in so,
+ * nothing is promised of points and spheres.
  */
 gantry_inserted gantry_insert_answers(gantry_mesh mesh, GANTRY_TABLES,
                                       const uint8_t *answers, size_t answers_len, uint32_t x, uint32_t y, uint32_t z);
 
 /*
  * Looks at the insertion of a node by the sphere test, and inserts nothing. The answer is the report that gantry_insert would give. marks
- * gets a byte for each cell: 1 where the node would replace it, 0 elsewhere; bytes beyond the cell count stay as they were, and all of them
- * do where the look is refused. Writes the work area and marks alone. Refusals 1 to 8, just where gantry_insert would answer them, then 10
- * for fewer bytes than cells.
+ * gets a byte for each number below the used length: 1 where the node would replace the cell, 0 for the other cells and for freed numbers;
+ * bytes beyond stay as they were, and all of them do where the look is refused. Writes the work area and marks alone. Refusals 1 to 8, just
+ * where gantry_insert would answer them, then 10 for fewer bytes than the used length.
  */
 gantry_looked gantry_look(gantry_mesh mesh, GANTRY_TABLES, uint8_t *marks, size_t marks_len, uint32_t x, uint32_t y, uint32_t z);
 
 /*
- * Inserts a node as gantry_insert does, but only if a look would now give these marks: each byte up to the cell count must be exactly the
+ * Inserts a node as gantry_insert does, but only if a look would now give these marks: each byte up to the used length must be exactly the
  * one that gantry_look would write; bytes beyond are not read. After a look at this node, with its marks, with record and tables as it left
  * them and a work area of the same length, the node goes in, with the report that the look gave; with other marks the answer is 14. That is
  * proved in crates/look_first. Refusals 1 to 8, then 14.
@@ -133,15 +154,16 @@ gantry_listed gantry_insert_list(gantry_mesh mesh, GANTRY_TABLES, const uint32_t
 /*
  * Of the cells that hold a position, their faces, edges and corners included, the one whose four corner numbers, sorted upward, come
  * first in order: of two cells the one with the lower number where they first differ. No two cells have the same four, so which cell it
- * is does not depend on the order of the cells in the tables; its number does. While a cell with its corners stands, the position is
- * located in it after insertions too, though new cells may hold it; its number may have changed. That is proved in crates/located.
- * Writes the work area alone. Refusals 1 2 3 4 7.
+ * is does not depend on the numbers of the cells. While a cell with its corners stands, the position is located in it after insertions
+ * too, though new cells may hold it: that is proved in crates/located. Its number is then the same. Writes the work area alone.
+ * Refusals 1 2 3 4 7.
  */
 gantry_located gantry_locate(gantry_mesh mesh, GANTRY_TABLES, uint32_t x, uint32_t y, uint32_t z);
 
 /*
  * Whether record and tables are a mesh. In one, every place of the box, at whole steps and at any fraction of one, is held by a cell,
- * and none lies strictly inside two: that is proved in crates/covering. Writes the work area alone.
+ * and none lies strictly inside two: that is proved in crates/covering. The cell count is that of the numbers below the used length that
+ * are not freed, and the chain has every freed one, each one time, and nothing else. Writes the work area alone.
  */
 bool gantry_check(gantry_mesh mesh, GANTRY_TABLES);
 

@@ -25,7 +25,8 @@ static void look(gantry_mesh mesh, planned *node)
 
     printf("look at the %s node: refusal %u; point %u, %u of %u cells would be replaced by %u:", node->name, (unsigned)looked.refusal,
            (unsigned)looked.point, (unsigned)looked.after, (unsigned)mesh.cells, (unsigned)looked.made);
-    for (cell = 0; cell < mesh.cells && looked.refusal == GANTRY_ACCEPTED; cell++)
+    /* A freed number's mark is 0. */
+    for (cell = 0; cell < mesh.used && looked.refusal == GANTRY_ACCEPTED; cell++)
         if (node->marks[cell] == 1)
             printf(" %u", (unsigned)cell);
     printf("\n");

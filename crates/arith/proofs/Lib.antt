@@ -14,3 +14,4 @@ pub mod Tables
 pub mod Determinant
 pub mod Settling
 pub mod Pigeonhole
+pub mod Renumbering

@@ -1,5 +1,5 @@
 -- Condition 3: after every list of insertion calls from a started box, the tables are a mesh and hold the accepted nodes.
-use Prim.Native.Nat.{ℕ, _+_, _*_, _≤_, _<_}
+use Prim.Native.Nat.{ℕ, _*_, _≤_}
 use mathlib.Core.Bool.{true, false, not, _&&_}
 use mathlib.Core.List.{List, [], _∷_, _++_, append-nil, append-assoc}
 use mathlib.Core.Logic.{_⊎_, inl, inr}
@@ -14,18 +14,21 @@ use Rattle.arith.proofs.Flags.{split, and-left, and-right}
 use Rattle.geometry.specs.declared.Position.{Position}
 use Rattle.mesh.specs.declared.Mesh.{Mesh}
 use Rattle.mesh.specs.declared.Started.the-variants.{Accepted, Refused}
-use Rattle.mesh.specs.Tables.{Tables, pointCapacity, cellCapacity, none, point, across}
-use Rattle.mesh.specs.Mesh.{LegalSide, boxCorner, IsMesh}
+use Rattle.mesh.specs.Tables.{Tables, pointCapacity, cellCapacity, none, point, across, IsFace}
+use Rattle.mesh.specs.Mesh.{LegalSide, boxCorner, IsMesh, ValidMesh}
 use Rattle.mesh.specs.Check.{legalSide, legalBox}
 use Rattle.mesh.specs.Start.{over, startPoints, startCorners, startNeighbours, started, startedMesh, short, startRefusal, startAnswer, startTables, StartLeaves}
 use Rattle.mesh.proofs.Checked.{side-of}
 use Rattle.mesh.proofs.FirstMesh.{start-mesh}
+use Rattle.mesh.proofs.Room.{room-of}
+use Rattle.mesh.proofs.Faces.{across-cell}
+use Rattle.mesh.proofs.Valid.{start-valid}
 use Rattle.cavity.specs.Answers.{Answers}
 use Rattle.insertion.specs.Insertion.{insertedMesh}
 use Rattle.calls.specs.Calls.{Build, startBuild, Call, meshAfter, acceptedBy, FaceStands, on-wall, shared, Claim}
-use Rattle.insertion.proofs.Refusals.{MeshFor, NodeFits, test-to-zero, node-fits}
+use Rattle.insertion.proofs.Refusals.{NodeFits, test-to-zero, node-fits}
 use Rattle.arith.proofs.Tables.{tabulate-cong}
-use Rattle.insertion.proofs.Growing.{inserted-mesh, inserted-points}
+use Rattle.insertion.proofs.Growing.{inserted-valid, inserted-points}
 use Rattle.calls.proofs.EachNode.{built, KeptBy, calls-keep}
 
 -- ---- capacities
@@ -49,7 +52,7 @@ record Kept (X Y Z : ℕ) (b : Build) (ps : List Position) : Type 0 where
   sideX : b .mesh .x ≡ X
   sideY : b .mesh .y ≡ Y
   sideZ : b .mesh .z ≡ Z
-  mesh : MeshFor (b .mesh) (b .tables) ample
+  mesh : ValidMesh (b .mesh) (b .tables) ample
   points : tabulate (b .mesh .points) (point (b .tables)) ≡ tabulate 8 (boxCorner X Y Z) ++ ps
 
 -- a node that any answers accept
@@ -59,7 +62,7 @@ node-kept {X} {Y} {Z} a m t w p ps M e K = record {
   sideX = K .sideX;
   sideY = K .sideY;
   sideZ = K .sideZ;
-  mesh = inserted-mesh m t ample w p a (K .mesh) fits (ample-most t w);
+  mesh = inserted-valid m t ample w p a (K .mesh) fits (ample-most t w);
   points =
       inserted-points m t ample w p a (K .mesh) fits (ample-most t w) ∙
       (ap (λ l. l ++ (p ∷ [])) (K .points) ∙ append-assoc (tabulate 8 (boxCorner X Y Z)) ps (p ∷ []));
@@ -94,15 +97,15 @@ recap M h k = record {
 }
 
 module _ {X Y Z : ℕ} (b : Build) (ps : List Position) (K : Kept X Y Z b ps) where
-  M : IsMesh X Y Z (pointCapacity (b .tables)) (cellCapacity (b .tables) ample) (b .mesh .points) (b .mesh .cells) (b .tables)
-  M = rw (K .sideX, K .sideY, K .sideZ) at (K .mesh)
+  M : IsMesh X Y Z (pointCapacity (b .tables)) (cellCapacity (b .tables) ample) (b .mesh .points) (b .mesh .used) (b .tables)
+  M = rw (K .sideX, K .sideY, K .sideZ) at (K .mesh .mesh)
 
-  face-stands : (f : ℕ) → f < 4 * b .mesh .cells → FaceStands X Y Z (b .tables) (b .mesh .cells) f
+  face-stands : (f : ℕ) → IsFace (b .tables) (b .mesh .used) f → FaceStands X Y Z (b .tables) (b .mesh .used) f
   face-stands f h = go (ℕ-discrete (across (b .tables) f) none)
     where
-      go : Dec (across (b .tables) f ≡ none) → FaceStands X Y Z (b .tables) (b .mesh .cells) f
+      go : Dec (across (b .tables) f ≡ none) → FaceStands X Y Z (b .tables) (b .mesh .used) f
       go (yes e) = on-wall e (M .walls f h e)
-      go (no d) = shared (M .across< f h d) (M .mated f h d .0) (M .mated f h d .1)
+      go (no d) = shared (across-cell M (room-of (b .tables) ample) f h d) (M .mated f h d .0) (M .mated f h d .1)
 
   kept-claim : Claim X Y Z b ps
   kept-claim = record {
@@ -114,7 +117,11 @@ module _ {X Y Z : ℕ} (b : Build) (ps : List Position) (K : Kept X Y Z b ps) wh
     sideX = K .sideX;
     sideY = K .sideY;
     sideZ = K .sideZ;
-    mesh = λ w h k. recap M (three-a-cell (b .tables) w 6 (M .cellCap≥) (omega arith)) (three-a-cell (b .tables) w (b .mesh .cells) (M .cells≤) k);
+    mesh = λ w h k. record {
+      mesh = recap (K .mesh .mesh) (three-a-cell (b .tables) w 6 (M .cellCap≥) (omega arith)) (three-a-cell (b .tables) w (b .mesh .used) (M .cells≤) k);
+      counted = K .mesh .counted;
+      chained = K .mesh .chained;
+    };
   }
 
 -- ---- the start
@@ -136,11 +143,11 @@ module _ (X Y Z : ℕ) (t : Tables) where
     sideX = refl;
     sideY = refl;
     sideZ = refl;
-    mesh = M;
+    mesh = start-valid X Y Z t ample M;
     points = tabulate-cong 8 (point (started X Y Z t)) (boxCorner X Y Z) (M .boxCorners) ∙ sym (append-nil (tabulate 8 (boxCorner X Y Z)));
   }
     where
-      M : MeshFor (startedMesh X Y Z) (started X Y Z t) ample
+      M : IsMesh X Y Z (pointCapacity (started X Y Z t)) (cellCapacity (started X Y Z t) ample) 8 6 (started X Y Z t)
       M = start-mesh X Y Z t hX hY hZ (pointCapacity (started X Y Z t)) (cellCapacity (started X Y Z t) ample) start-points≥ start-cells≥
 
   start-legal : (w : ℕ) → startRefusal X Y Z t w ≡ 0 → LegalSide X × LegalSide Y × LegalSide Z

@@ -12,7 +12,7 @@ use Rattle.mesh.specs.declared.Mesh.{Mesh}
 use Rattle.mesh.specs.Tables.{Tables}
 use Rattle.mesh.specs.Check.{isMesh}
 use Rattle.mesh.specs.Refusal.{meshRefusal}
-use Rattle.mesh.proofs.Verdict.{passed}
+use Rattle.mesh.proofs.Valid.{passed}
 use Rattle.cavity.specs.Answers.{Answers, sphere, handed}
 use Rattle.insertion.specs.Insertion.{nodeRefusal, fewerBytes, insertRefusal, insertedMesh, insertedTables, insertUnless, insertCall}
 use Rattle.insertion.specs.List.{listedNode, listedCount, insertFrom, listCall}
@@ -51,7 +51,7 @@ module _ (P : Build → List Position → Type 0) where
       go (no d) = rw (unless-refused m t p a refl d) (same-kept (built m t) ps K)
       go (yes z) =
           let h = tests-passed m t w p a (fits z) in
-          rw (unless-accepted m t p a z) (more m t w p ps (passed m t w (fewerBytes a (m .cells)) (h .0)) (h .1) K)
+          rw (unless-accepted m t p a z) (more m t w p ps (passed m t w (fewerBytes a (m .used)) (h .0)) (h .1) K)
 
   pub insert-keeps : (a : Answers) → KeptBy a → (m : Mesh) (t : Tables) (w : ℕ) (p : Position) (ps : List Position) → P (built m t) ps →
       Keeps ps (insertOutcome m p (insertCall m t w p a))

@@ -7,8 +7,8 @@ use lib.Signed.{_<ℤ_}
 use Rattle.arith.specs.Table.{tabulate, sum}
 use Rattle.geometry.specs.declared.Position.{Position}
 use Rattle.mesh.specs.declared.Mesh.{Mesh}
-use Rattle.mesh.specs.Tables.{Tables, pointCapacity, cellCapacity, none, point, across, cellVolume}
-use Rattle.mesh.specs.Mesh.{boxCorner, OnWall, Mated, CornerOf, IsMesh}
+use Rattle.mesh.specs.Tables.{Tables, none, point, across, cellVolume, IsCell, IsFace}
+use Rattle.mesh.specs.Mesh.{boxCorner, OnWall, Mated, CornerOf, ValidMesh}
 use Rattle.mesh.specs.Start.{startedMesh, startTables}
 use Rattle.cavity.specs.Answers.{sphere, handed}
 use Rattle.insertion.specs.declared.Inserted.{Inserted}
@@ -96,23 +96,23 @@ acceptedBy b (c ∷ cs) = outcome b c .accepted ++ acceptedBy (outcome b c .afte
 -- face f is on a wall, or shared with a cell on its far side that names it back
 pub data FaceStands (X Y Z : ℕ) (t : Tables) (n f : ℕ) : Type 0 where
   on-wall : across t f ≡ none → OnWall X Y Z t f → FaceStands X Y Z t n f
-  shared : across t f < n → (g : ℕ) → Mated t f g → FaceStands X Y Z t n f
+  shared : IsCell t n (across t f) → (g : ℕ) → Mated t f g → FaceStands X Y Z t n f
 
 -- condition 3, of what a list of calls leaves in the box X, Y, Z and the nodes ps that it accepts
 pub record Claim (X Y Z : ℕ) (b : Build) (ps : List Position) : Type 0 where
   -- every cell's six-fold volume is above 0
-  pub positive : (c : ℕ) → c < b .mesh .cells → pos 0 <ℤ cellVolume (b .tables) c
-  pub faces : (f : ℕ) → f < 4 * b .mesh .cells → FaceStands X Y Z (b .tables) (b .mesh .cells) f
-  -- the volumes add up to the box, with the start's sides
-  pub volumes : sum (b .mesh .cells) (cellVolume (b .tables)) ≡ pos (6 * X * Y * Z)
+  pub positive : (c : ℕ) → IsCell (b .tables) (b .mesh .used) c → pos 0 <ℤ cellVolume (b .tables) c
+  pub faces : (f : ℕ) → IsFace (b .tables) (b .mesh .used) f → FaceStands X Y Z (b .tables) (b .mesh .used) f
+  -- the volumes add up to the box, with the start's sides; a freed entry's, four times one point, is 0
+  pub volumes : sum (b .mesh .used) (cellVolume (b .tables)) ≡ pos (6 * X * Y * Z)
   -- the points are the eight corners of the box and then just the accepted nodes, in their order
   pub points : tabulate (b .mesh .points) (point (b .tables)) ≡ tabulate 8 (boxCorner X Y Z) ++ ps
   -- every point is a corner of some cell
-  pub used : (k : ℕ) → k < b .mesh .points → CornerOf (b .tables) (b .mesh .cells) k
+  pub used : (k : ℕ) → k < b .mesh .points → CornerOf (b .tables) (b .mesh .used) k
   -- the record has the start's sides
   pub sideX : b .mesh .x ≡ X
   pub sideY : b .mesh .y ≡ Y
   pub sideZ : b .mesh .z ≡ Z
-  -- all of 'What a mesh is', for every work area of three entries a cell, and of the 18 that the least capacity takes
-  pub mesh : (w : ℕ) → 18 ≤ w → 3 * b .mesh .cells ≤ w →
-      IsMesh X Y Z (pointCapacity (b .tables)) (cellCapacity (b .tables) w) (b .mesh .points) (b .mesh .cells) (b .tables)
+  -- all of 'What a mesh is', the chain of freed entries and the cell count, for every work area of three entries for each that is in use, and
+  -- of the 18 that the least capacity takes
+  pub mesh : (w : ℕ) → 18 ≤ w → 3 * b .mesh .used ≤ w → ValidMesh (b .mesh) (b .tables) w

@@ -1,5 +1,5 @@
 -- What cell c answers: by the sphere test, or by the byte handed in.
-use Prim.Native.Nat.{ℕ, _<_}
+use Prim.Native.Nat.{ℕ}
 use mathlib.Core.Bool.{Bool, true, false, not}
 use mathlib.Core.List.{List}
 use mathlib.Core.Path.{_≡_, ap, _∙_}
@@ -15,7 +15,7 @@ use Rattle.geometry.specs.Volume.{InRange}
 use Rattle.insphere.specs.declared.Sphere.{Sphere}
 use Rattle.insphere.specs.Sphere.{zeroFloat, sphereAnswer}
 use Rattle.insphere.proofs.Promises.{sphere-near, isInside, carried, answer-inside, answer-carries}
-use Rattle.mesh.specs.Tables.{Tables, pointIn, cornerAt, tables}
+use Rattle.mesh.specs.Tables.{Tables, pointIn, cornerAt, IsCell, tables}
 use Rattle.mesh.specs.Inner.{fourAt, positionsOf, SomeMesh}
 use Rattle.mesh.proofs.Numbers.{four-corner}
 use Rattle.mesh.proofs.Reading.{corner-in-range}
@@ -36,14 +36,14 @@ module _ {ps cs ns : List ℕ} {np n : ℕ} (M : SomeMesh (tables ps cs ns) np n
   abbrev t : Tables
   t = tables ps cs ns
 
-  whole-T : (c : ℕ) → c < n → {q : Position} → InRange q → (z : ℤ) × IsInt (cellT t q c) z
+  whole-T : (c : ℕ) → IsCell t n c → {q : Position} → InRange q → (z : ℤ) × IsInt (cellT t q c) z
   unfolding cellT
   whole-T c h {q} r =
       let s = sphere-near record { a = cornerAt t c 0; b = cornerAt t c 1; c = cornerAt t c 2; d = cornerAt t c 3 } q
       record { a = corner-in-range M c 0 h (omega arith); b = corner-in-range M c 1 h (omega arith); c = corner-in-range M c 2 h (omega arith); d = corner-in-range M c 3 h (omega arith) } r in
       (s .whole, s .is)
 
-  pub whole-report : (a : Answers) (c : ℕ) → c < n → {q : Position} → InRange q → (z : ℤ) × IsInt (reportT a t q c) z
+  pub whole-report : (a : Answers) (c : ℕ) → IsCell t n c → {q : Position} → InRange q → (z : ℤ) × IsInt (reportT a t q c) z
   unfolding reportT
   whole-report sphere c h r = whole-T c h r
   whole-report (handed bytes) c h r = (pos 0, zero-int)

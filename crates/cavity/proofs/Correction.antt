@@ -12,22 +12,23 @@ use lib.IntN.{pos}
 use lib.Signed.{_<ℤ_, _≤ℤ_}
 use borrow.Author.Tests.{not-true, not-false}
 use Rattle.arith.specs.Table.{anyBelow, countBelow, iterate}
-use Rattle.arith.proofs.Flags.{split, clash, flag-below, and-left, and-right, and-intro, or-left, or-right}
+use Rattle.arith.proofs.Flags.{split, clash, flag-below, and-left, and-right, and-intro, or-left, or-right, or-cases}
 use Rattle.arith.proofs.Tables.{tabulate-length, tabulate-at, all-intro, any-intro}
 use Rattle.arith.proofs.Settling.{iterate-keeps, iterate-fixed, iterate-stops, settles, clearing-settles}
 use Rattle.arith.proofs.Counting.{count-fewer, count-le}
 use Rattle.arith.proofs.Order.{trichotomy, <-irrefl, <-≤-trans, ≤-<-trans, neg-mono-<}
 use Rattle.geometry.specs.declared.Position.{Position}
 use Rattle.geometry.specs.Volume.{volume, replaced}
-use Rattle.mesh.specs.Tables.{Tables, none, cellOf, opposite, point, corner, across, cornerAt, cellVolume, side, mate, faceHas}
+use Rattle.mesh.specs.Tables.{Tables, none, cellOf, opposite, point, corner, across, cornerAt, cellVolume, side, mate, faceHas, live, IsCell, IsFace}
 use Rattle.mesh.specs.Mesh.{OnFace, IsMesh}
 use Rattle.mesh.proofs.Room.{Room}
-use Rattle.mesh.proofs.Faces.{few, mated, mate-opposite}
-use Rattle.mesh.proofs.FaceNumbers.{face-cell, face-opposite, opposite<, face-eq}
+use Rattle.mesh.proofs.Faces.{few, mated, mate-opposite, across-cell}
+use Rattle.mesh.proofs.FaceNumbers.{face-cell, face-opposite, opposite<, face-eq, face<, face-in}
 use Rattle.mesh.proofs.Links.{on-face-yes}
 use Rattle.mesh.proofs.Held.{Holds, side-at, neighbour-holds, other-weight}
 use Rattle.cavity.specs.Cavity.{outer, inSet, base, grown, cavity, visible, coplanar, facesGood, cornersGood, marked, pruned, corrected, correctedCavity, cavityOf}
 use Rattle.locate.specs.Locate.{holds}
+use Rattle.locate.proofs.Codes.{holds-live}
 use Rattle.cavity.specs.Inner.Star.{Exposed, StarShaped}
 use Rattle.cavity.proofs.Tests.{Outer, outer-of, outer-yes, visible-yes, coplanar-yes, holds-of, holds-yes, faces-good, corners-good}
 
@@ -45,19 +46,39 @@ module _ (t : Tables) (n : ℕ) (p : Position) where
   pub base-below : (c : ℕ) → inSet (base t n p) c ≡ true → c < n
   base-below c e = omega (arith, flag-below (base t n p) c e, base-long)
 
+  pub base-cell : (c : ℕ) → inSet (base t n p) c ≡ true → IsCell t n c
+  base-cell c e = record { below = base-below c e; lives = holds-live t p c (sym (base-at c (base-below c e)) ∙ e) }
+
   grown-keeps : (yes? : ℕ → Bool) (b s : List Bool) → length b ≡ n → ((c : ℕ) → inSet b c ≡ true → inSet s c ≡ true) → (c : ℕ) → inSet b c ≡ true → inSet (grown t n yes? s) c ≡ true
   unfolding grown
   grown-keeps yes? b s l h c e =
-      tabulate-at n (λ c. inSet s c || (yes? c && anyBelow 4 (λ k. inSet s (across t (4 * c + k))))) c false (omega (arith, flag-below b c e)) ∙
-      or-left (inSet s c) (yes? c && anyBelow 4 (λ k. inSet s (across t (4 * c + k)))) (h c e)
+      tabulate-at n (λ c. inSet s c || ((live t c && yes? c) && anyBelow 4 (λ k. inSet s (across t (4 * c + k))))) c false (omega (arith, flag-below b c e)) ∙
+      or-left (inSet s c) ((live t c && yes? c) && anyBelow 4 (λ k. inSet s (across t (4 * c + k)))) (h c e)
 
   grown-long : (yes? : ℕ → Bool) (s : List Bool) → length (grown t n yes? s) ≡ n
   unfolding grown
-  grown-long yes? s = tabulate-length n (λ c. inSet s c || (yes? c && anyBelow 4 (λ k. inSet s (across t (4 * c + k)))))
+  grown-long yes? s = tabulate-length n (λ c. inSet s c || ((live t c && yes? c) && anyBelow 4 (λ k. inSet s (across t (4 * c + k)))))
 
   pub cavity-long : (yes? : ℕ → Bool) (b : List Bool) → length b ≡ n → length (cavity t n yes? b) ≡ n
   unfolding cavity
   cavity-long yes? b h = iterate-keeps (grown t n yes?) (λ s. length s ≡ n) (λ s l. grown-long yes? s) n b h
+
+  pub grown-cells : (yes? : ℕ → Bool) (s : List Bool) → ((c : ℕ) → inSet s c ≡ true → IsCell t n c) → (c : ℕ) → inSet (grown t n yes? s) c ≡ true → IsCell t n c
+  unfolding grown
+  grown-cells yes? s h c e =
+      go (or-cases (inSet s c) ((live t c && yes? c) && anyBelow 4 (λ k. inSet s (across t (4 * c + k))))
+      (sym (tabulate-at n (λ c. inSet s c || ((live t c && yes? c) && anyBelow 4 (λ k. inSet s (across t (4 * c + k))))) c false c<) ∙ e))
+    where
+      c< : c < n
+      c< = omega (arith, flag-below (grown t n yes? s) c e, grown-long yes? s)
+
+      go : (inSet s c ≡ true) ⊎ (((live t c && yes? c) && anyBelow 4 (λ k. inSet s (across t (4 * c + k)))) ≡ true) → IsCell t n c
+      go (inl q) = h c q
+      go (inr q) = record { below = c<; lives = and-left (live t c) (yes? c) (and-left (live t c && yes? c) _ q) }
+
+  pub cavity-cells : (yes? : ℕ → Bool) (b : List Bool) → ((c : ℕ) → inSet b c ≡ true → IsCell t n c) → (c : ℕ) → inSet (cavity t n yes? b) c ≡ true → IsCell t n c
+  unfolding cavity
+  cavity-cells yes? b h = iterate-keeps (grown t n yes?) (λ s. (c : ℕ) → inSet s c ≡ true → IsCell t n c) (λ s l. grown-cells yes? s l) n b h
 
   pub cavity-has : (yes? : ℕ → Bool) (b : List Bool) → length b ≡ n → (c : ℕ) → inSet b c ≡ true → inSet (cavity t n yes? b) c ≡ true
   unfolding cavity
@@ -84,6 +105,12 @@ module _ (t : Tables) (n : ℕ) (p : Position) where
     pub corrected-long : (s : List Bool) → length s ≡ n → length (corrected t n p b s) ≡ n
     unfolding corrected
     corrected-long s h = iterate-keeps (pruned t n p b) (λ s. length s ≡ n) (λ s l. pruned-long s) n s h
+
+    pub corrected-cells : (s : List Bool) → ((c : ℕ) → inSet s c ≡ true → IsCell t n c) → (c : ℕ) → inSet (corrected t n p b s) c ≡ true → IsCell t n c
+    unfolding corrected
+    corrected-cells s h =
+        iterate-keeps (pruned t n p b) (λ s. (c : ℕ) → inSet s c ≡ true → IsCell t n c)
+        (λ r l c e. l c (and-left (inSet r c) (not (marked t n p b r c)) (sym (pruned-at r c (omega (arith, flag-below (pruned t n p b r) c e, pruned-long r))) ∙ e))) n s h
 
     -- C1: the base stays
     pub corrected-has : (s : List Bool) → length b ≡ n → ((c : ℕ) → inSet b c ≡ true → inSet s c ≡ true) → (c : ℕ) → inSet b c ≡ true → inSet (corrected t n p b s) c ≡ true
@@ -154,21 +181,21 @@ module _ (t : Tables) (n : ℕ) (p : Position) where
 -- ---- C2 and C3
 
 module _ {X Y Z pc cc np n : ℕ} {t : Tables} (M : IsMesh X Y Z pc cc np n t) (R : Room pc cc t)
-    (p : Position) (new : (k : ℕ) → k < np → p ≢ point t k) (s : List Bool) (long : length s ≡ n)
+    (p : Position) (new : (k : ℕ) → k < np → p ≢ point t k) (s : List Bool) (cells : (c : ℕ) → inSet s c ≡ true → IsCell t n c)
     (has : (c : ℕ) → inSet (base t n p) c ≡ true → inSet s c ≡ true)
     (good : (c : ℕ) → inSet s c ≡ true → inSet (base t n p) c ≡ false → (facesGood t p s c && cornersGood t n p s c) ≡ true) where
-  inside : (c : ℕ) → inSet s c ≡ true → c < n
-  inside c e = omega (arith, flag-below s c e)
-
   held : (c : ℕ) → inSet (base t n p) c ≡ true → Holds t p c
   held c e = holds-of t p c (sym (base-at t n p c (base-below t n p c e)) ∙ e)
 
-  pub outer-good : (f : ℕ) → f < 4 * n → outer (across t) (inSet s) f ≡ true → (visible t p s f ≡ true) ⊎ (coplanar t p f ≡ true)
+  pub outer-good : (f : ℕ) → outer (across t) (inSet s) f ≡ true → (visible t p s f ≡ true) ⊎ (coplanar t p f ≡ true)
   unfolding Holds
-  outer-good f f< o = go (split (inSet (base t n p) (cellOf f)))
+  outer-good f o = go (split (inSet (base t n p) (cellOf f)))
     where
       q : Outer t s f
       q = outer-of t s f o
+
+      f< : IsFace t n f
+      f< = cells (cellOf f) (q .held)
 
       go : (inSet (base t n p) (cellOf f) ≡ true) ⊎ (inSet (base t n p) (cellOf f) ≡ false) → (visible t p s f ≡ true) ⊎ (coplanar t p f ≡ true)
       go (inr b) =
@@ -185,7 +212,7 @@ module _ {X Y Z pc cc np n : ℕ} {t : Tables} (M : IsMesh X Y Z pc cc np n t) (
           by (inr (inl h)) (yes e) = inr (coplanar-yes t p f e (sym h))
           by (inr (inl h)) (no e) =
               clash (has (across t f) (base-at t n p (across t f) (M .across< f f< e) ∙
-              holds-yes t p (across t f) (neighbour-holds M R f f< e p (held (cellOf f) b) (sym h)))) (q .free)
+              holds-yes t p (across t f) (across-cell M R f f< e .lives) (neighbour-holds M R f f< e p (held (cellOf f) b) (sym h)))) (q .free)
           by (inr (inr h)) d = absurd (<-irrefl (<-≤-trans h not-below))
 
   pub corner-exposed : (c i : ℕ) → inSet s c ≡ true → i < 4 → Exposed t n p s (corner t c i)
@@ -193,18 +220,15 @@ module _ {X Y Z pc cc np n : ℕ} {t : Tables} (M : IsMesh X Y Z pc cc np n t) (
   corner-exposed c i e hi = go (split (inSet (base t n p) c))
     where
       outside : (c i : ℕ) → inSet s c ≡ true → i < 4 → inSet (base t n p) c ≡ false → Exposed t n p s (corner t c i)
-      outside c i e hi b = corners-good t n p s c i (and-right (facesGood t p s c) (cornersGood t n p s c) (good c e b)) hi
-
-      module-c : c < n
-      module-c = inside c e
+      outside c i e hi b = corners-good t n p s cells c i (and-right (facesGood t p s c) (cornersGood t n p s c) (good c e b)) hi
 
       away : inSet (base t n p) c ≡ true → (j : ℕ) × (j < 4) × ((j ≢ i) × (pos 0 <ℤ volume (replaced (cornerAt t c) j p)))
-      away b = other-weight (cornerAt t c) p i hi (above c (inside c e)) (held c b) (apart c i (inside c e) hi)
+      away b = other-weight (cornerAt t c) p i hi (above c (cells c e)) (held c b) (apart c i (cells c e) hi)
         where
-          above : (c : ℕ) → c < n → pos 0 <ℤ volume (cornerAt t c)
+          above : (c : ℕ) → IsCell t n c → pos 0 <ℤ volume (cornerAt t c)
           above c h = unfold cellVolume in M .positive c h
 
-          apart : (c i : ℕ) → c < n → i < 4 → p ≢ cornerAt t c i
+          apart : (c i : ℕ) → IsCell t n c → i < 4 → p ≢ cornerAt t c i
           apart c i h k = unfold cornerAt in new (corner t c i) (M .corner< c i h k)
 
       go : (inSet (base t n p) c ≡ true) ⊎ (inSet (base t n p) c ≡ false) → Exposed t n p s (corner t c i)
@@ -220,8 +244,8 @@ module _ {X Y Z pc cc np n : ℕ} {t : Tables} (M : IsMesh X Y Z pc cc np n t) (
               cell-is : cellOf f ≡ c
               cell-is = face-cell c (w .0) (w .1)
 
-              f< : f < 4 * n
-              f< = omega (arith, inside c e, w .1)
+              f< : IsFace t n f
+              f< = face-in c (w .0) (w .1) (cells c e)
 
               front : pos 0 <ℤ side t p f
               front = subst (λ z. pos 0 <ℤ z) (sym (side-at t p c (w .0) (w .1))) (w .2 .1)
@@ -237,7 +261,7 @@ module _ {X Y Z pc cc np n : ℕ} {t : Tables} (M : IsMesh X Y Z pc cc np n t) (
               by (inl g) = subst (Exposed t n p s) same (outside (cellOf (mate t f)) (shared .place) (ap (inSet s) far ∙ g) (shared .place<) not-base)
                 where
                   real : across t f ≢ none
-                  real = omega (arith, inside (across t f) g, few M R)
+                  real = omega (arith, cells (across t f) g .below, few M R)
 
                   far : cellOf (mate t f) ≡ across t f
                   far = mated M R f f< real .far-cell
@@ -281,6 +305,10 @@ module _ {X Y Z pc cc np n : ℕ} {t : Tables} (M : IsMesh X Y Z pc cc np n t) (
   unfolding correctedCavity
   last-long = corrected-long t n p (base t n p) first first-long
 
+  last-cells : (c : ℕ) → inSet last c ≡ true → IsCell t n c
+  unfolding correctedCavity cavityOf
+  last-cells = corrected-cells t n p (base t n p) first (cavity-cells t n p yes? (base t n p) (base-cell t n p))
+
   last-has : (c : ℕ) → inSet (base t n p) c ≡ true → inSet last c ≡ true
   unfolding correctedCavity
   last-has = corrected-has t n p (base t n p) first (base-long t n p) cavity-has-base
@@ -291,28 +319,28 @@ module _ {X Y Z pc cc np n : ℕ} {t : Tables} (M : IsMesh X Y Z pc cc np n t) (
 
   pub corrected-star-shaped : StarShaped t n p last
   corrected-star-shaped = record {
-    long = last-long;
-    faces = outer-good M R p new last last-long last-has last-good;
-    corners = corner-exposed M R p new last last-long last-has last-good;
+    cells = last-cells;
+    faces = outer-good M R p new last last-cells last-has last-good;
+    corners = corner-exposed M R p new last last-cells last-has last-good;
     some = (c₀, last-has c₀ some);
   }
 
 -- ---- a star-shaped set is left as it is
 
 module _ {t : Tables} {n : ℕ} {p : Position} {s : List Bool} (S : StarShaped t n p s) where
-  good-faces : (c : ℕ) → c < n → facesGood t p s c ≡ true
+  good-faces : (c : ℕ) → facesGood t p s c ≡ true
   unfolding facesGood
-  good-faces c c< = all-intro 4 (λ k. not (outer (across t) (inSet s) (4 * c + k)) || (coplanar t p (4 * c + k) || visible t p s (4 * c + k))) (λ k h. each (4 * c + k) (omega arith))
+  good-faces c = all-intro 4 (λ k. not (outer (across t) (inSet s) (4 * c + k)) || (coplanar t p (4 * c + k) || visible t p s (4 * c + k))) (λ k h. each (4 * c + k))
     where
-      each : (f : ℕ) → f < 4 * n → (not (outer (across t) (inSet s) f) || (coplanar t p f || visible t p s f)) ≡ true
-      each f f< = by (split (outer (across t) (inSet s) f))
+      each : (f : ℕ) → (not (outer (across t) (inSet s) f) || (coplanar t p f || visible t p s f)) ≡ true
+      each f = by (split (outer (across t) (inSet s) f))
         where
           at : (visible t p s f ≡ true) ⊎ (coplanar t p f ≡ true) → (coplanar t p f || visible t p s f) ≡ true
           at (inl h) = or-right (coplanar t p f) (visible t p s f) h
           at (inr h) = or-left (coplanar t p f) (visible t p s f) h
 
           by : (outer (across t) (inSet s) f ≡ true) ⊎ (outer (across t) (inSet s) f ≡ false) → (not (outer (across t) (inSet s) f) || (coplanar t p f || visible t p s f)) ≡ true
-          by (inl o) = or-right (not (outer (across t) (inSet s) f)) (coplanar t p f || visible t p s f) (at (S .faces f f< o))
+          by (inl o) = or-right (not (outer (across t) (inSet s) f)) (coplanar t p f || visible t p s f) (at (S .faces f o))
           by (inr o) = or-left (not (outer (across t) (inSet s) f)) (coplanar t p f || visible t p s f) (ap not o)
 
   good-corners : (c : ℕ) → inSet s c ≡ true → cornersGood t n p s c ≡ true
@@ -322,27 +350,27 @@ module _ {t : Tables} {n : ℕ} {p : Position} {s : List Bool} (S : StarShaped t
       each : (k : ℕ) → k < 4 → anyBelow (4 * n) (λ f. visible t p s f && faceHas t f (corner t c k)) ≡ true
       each k h =
           let E = S .corners c k e h in
-          any-intro (4 * n) (λ f. visible t p s f && faceHas t f (corner t c k)) (E .face) (E .face<) (and-intro (E .face-visible) (on-face-yes t (E .face) (corner t c k) (E .on)))
+          any-intro (4 * n) (λ f. visible t p s f && faceHas t f (corner t c k)) (E .face) (face< (E .face) (E .face<)) (and-intro (E .face-visible) (on-face-yes t (E .face) (corner t c k) (E .on)))
 
   module _ (b : List Bool) where
-    unmarked : (c : ℕ) → c < n → inSet s c ≡ true → marked t n p b s c ≡ false
+    unmarked : (c : ℕ) → inSet s c ≡ true → marked t n p b s c ≡ false
     unfolding marked
-    unmarked c c< e = rw (e, good-faces c c<, good-corners c e) (go (inSet b c))
+    unmarked c e = rw (e, good-faces c, good-corners c e) (go (inSet b c))
       where
         go : (x : Bool) → (not x && false) ≡ false
         go true = refl
         go false = refl
 
-    stays : (c : ℕ) → c < n → (inSet s c && not (marked t n p b s c)) ≡ inSet s c
-    stays c c< = by (split (inSet s c))
+    stays : (c : ℕ) → (inSet s c && not (marked t n p b s c)) ≡ inSet s c
+    stays c = by (split (inSet s c))
       where
         by : (inSet s c ≡ true) ⊎ (inSet s c ≡ false) → (inSet s c && not (marked t n p b s c)) ≡ inSet s c
-        by (inl e) = and-intro e (ap not (unmarked c c< e)) ∙ sym e
+        by (inl e) = and-intro e (ap not (unmarked c e)) ∙ sym e
         by (inr e) = rw e
 
-    pub star-shaped-stays : corrected t n p b s ≡ s
+    pub star-shaped-stays : length s ≡ n → corrected t n p b s ≡ s
     unfolding corrected
-    star-shaped-stays =
+    star-shaped-stays long =
         iterate-fixed (pruned t n p b) n s
-        (ext-getD false (pruned t n p b s) s (pruned-long t n p b s ∙ sym (S .long))
-        (λ c h. let c< : c < n = omega (arith, pruned-long t n p b s) in pruned-at t n p b s c c< ∙ stays c c<))
+        (ext-getD false (pruned t n p b s) s (pruned-long t n p b s ∙ sym long)
+        (λ c h. let c< : c < n = omega (arith, pruned-long t n p b s) in pruned-at t n p b s c c< ∙ stays c))

@@ -8,3 +8,4 @@ pub mod Visiting
 pub mod Marking
 pub mod Rounds
 pub mod Removal
+pub mod Clearing

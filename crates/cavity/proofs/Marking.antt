@@ -22,11 +22,11 @@ use Rattle.geometry.specs.declared.Volumes.{Volumes}
 use Rattle.geometry.specs.Volume.{InRange, volume, replaced}
 use Rattle.geometry.specs.Inner.{volumesAt}
 use Rattle.mesh.specs.declared.Cell.{Cell}
-use Rattle.mesh.specs.Tables.{Tables, none, cellOf, pointIn, across, side, tables}
+use Rattle.mesh.specs.Tables.{Tables, none, cellOf, pointIn, across, side, tables, IsCell, IsFace}
 use Rattle.mesh.specs.Inner.{cellAt, positionsOf, SomeMesh}
 use Rattle.mesh.specs.Inner.Faces.{first, second, third}
 use Rattle.mesh.proofs.Numbers.{others, byte≤}
-use Rattle.mesh.proofs.FaceNumbers.{face-cell}
+use Rattle.mesh.proofs.FaceNumbers.{face-cell, face-in}
 use Rattle.mesh.proofs.Reading.{loaded-corners, loaded-cornered, entry-across}
 use Rattle.locate.specs.Inner.{volumeAt}
 use Rattle.locate.proofs.Codes.{measured, side-of-four}
@@ -37,7 +37,7 @@ use Rattle.cavity.proofs.Visiting.{set-at, in-set}
 
 -- ---- the kinds of a cell's faces
 
-module _ {ps cs ns : List ℕ} {np n : ℕ} (M : SomeMesh (tables ps cs ns) np n) {q : Position} (r : InRange q) {c : ℕ} (c< : c < n)
+module _ {ps cs ns : List ℕ} {np n : ℕ} (M : SomeMesh (tables ps cs ns) np n) {q : Position} (r : InRange q) {c : ℕ} (c< : IsCell (tables ps cs ns) n c)
     {cell : Cell} (e : cell ≡ cellAt cs ns c) where
   abbrev t : Tables
   t = tables ps cs ns
@@ -127,13 +127,13 @@ code-good t p s c =
     good : (k : ℕ) → not (hidden t p s (4 * c + k)) ≡ (not (outer (across t) (inSet s) (4 * c + k)) || (coplanar t p (4 * c + k) || visible t p s (4 * c + k)))
     good k = and-not (outer (across t) (inSet s) (4 * c + k)) (coplanar t p (4 * c + k) || visible t p s (4 * c + k))
 
-module _ (t : Tables) (n : ℕ) (n≤ : n ≤ 4096) (p : Position) (st : List ℕ) (links : (f : ℕ) → f < 4 * n → across t f ≢ none → across t f < n)
-    (c : ℕ) (c< : c < n) (in? : inside st c ≡ true) where
+module _ (t : Tables) (n : ℕ) (n≤ : n ≤ 4096) (p : Position) (st : List ℕ) (links : (f : ℕ) → IsFace t n f → across t f ≢ none → across t f < n)
+    (c : ℕ) (c< : IsCell t n c) (in? : inside st c ≡ true) where
   abbrev s : List Bool
   s = setOf n st
 
   own : (k : ℕ) → k < 4 → inSet s (cellOf (4 * c + k)) ≡ true
-  own k h = ap (inSet s) (face-cell c k h) ∙ (set-at n st c c< ∙ in?)
+  own k h = ap (inSet s) (face-cell c k h) ∙ (set-at n st c (c< .below) ∙ in?)
 
   no-cell : inSet s none ≡ false
   no-cell = fails (inSet s none) (λ e. far (in-set n st none e .0))
@@ -162,7 +162,7 @@ module _ (t : Tables) (n : ℕ) (n≤ : n ≤ 4096) (p : Position) (st : List �
 
       go : Dec (u ≡ none) → faceKind st u (side t p (4 * c + k)) ≡ boolByte (visible t p s (4 * c + k)) + 16 * boolByte (hidden t p s (4 * c + k))
       go (yes e) = rw (own k h, e, no-cell, low, high) (wall-kind a b)
-      go (no d) = rw (own k h, ne-eqb u none d, set-at n st u (links (4 * c + k) (omega arith) d)) (inner-kind (inside st u) a)
+      go (no d) = rw (own k h, ne-eqb u none d, set-at n st u (links (4 * c + k) (face-in c k h c<) d)) (inner-kind (inside st u) a)
 
   pub kind-visible : (k : ℕ) → k < 4 → eqb (getD (faceKinds t p st c) k 0) 1 ≡ visible t p s (4 * c + k)
   unfolding hidden

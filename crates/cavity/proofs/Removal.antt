@@ -18,7 +18,7 @@ use Rattle.arith.proofs.Settling.{iterate-suc}
 use Rattle.arith.proofs.Counting.{count-added, count-cong, count-le}
 use Rattle.geometry.specs.declared.Position.{Position}
 use Rattle.geometry.specs.Volume.{InRange}
-use Rattle.mesh.specs.Tables.{Tables, tables}
+use Rattle.mesh.specs.Tables.{Tables, tables, live}
 use Rattle.mesh.specs.Inner.{HasCell, fourAt, SomeMesh}
 use Rattle.locate.specs.Locate.{holds}
 use Rattle.cavity.specs.declared.Gathered.{Gathered}
@@ -29,7 +29,7 @@ use Rattle.cavity.specs.Inner.Correction.{Correctable, InspectedTo, cell
 use Rattle.cavity.specs.Inner.Growth.{Scanned, Reached}
 use Rattle.cavity.proofs.Correction.{base-at, corrected-stops}
 use Rattle.mesh.proofs.Reading.{cells-few, has-corners, corner-mark}
-use Rattle.cavity.proofs.Gathering.{size≤}
+use Rattle.cavity.proofs.Gathering.{size≤, none-inside}
 use Rattle.cavity.proofs.Visiting.{set-at, set-long, unheld, held, least-is}
 use Rattle.cavity.proofs.Rounds.{stays-is, stays-base, stays-same}
 
@@ -41,7 +41,7 @@ pub record Pruning (n : ℕ) (stay : ℕ → Bool) (st₀ li₀ : List ℕ) (siz
   pub ahead : (k : ℕ) → i ≤ k → k < size → getD li k 0 ≡ getD li₀ k 0
   pub done : (k : ℕ) → k < i → getD st (getD li₀ k 0) 0 ≡ cond (stay (getD li₀ k 0)) (getD st₀ (getD li₀ k 0) 0) 0
   pub todo : (k : ℕ) → i ≤ k → k < size → getD st (getD li₀ k 0) 0 ≡ getD st₀ (getD li₀ k 0) 0
-  pub out : (c : ℕ) → c < n → inside st₀ c ≡ false → getD st c 0 ≡ getD st₀ c 0
+  pub out : (c : ℕ) → inside st₀ c ≡ false → getD st c 0 ≡ getD st₀ c 0
   pub from : (j : ℕ) → j < kept → (k : ℕ) × (k < i) × (getD li j 0 ≡ getD li₀ k 0) × (stay (getD li₀ k 0) ≡ true)
   pub apart : (i′ j : ℕ) → i′ < j → j < kept → getD li i′ 0 ≢ getD li j 0
   pub into : (k : ℕ) → k < i → stay (getD li₀ k 0) ≡ true → (j : ℕ) × (j < kept) × (getD li j 0 ≡ getD li₀ k 0)
@@ -56,7 +56,7 @@ last-or P i old new k h = go (ℕ-discrete k i)
     go (yes q) = subst P (sym q) new
     go (no d) = old k (omega arith)
 
-module _ {n : ℕ} {st₀ li₀ : List ℕ} {size : ℕ} (L : Enumerated n st₀ li₀ size) (n≤ : n ≤ 4096) (stay : ℕ → Bool) where
+module _ {t : Tables} {n : ℕ} {st₀ li₀ : List ℕ} {size : ℕ} (L : Enumerated t n st₀ li₀ size) (n≤ : n ≤ 4096) (stay : ℕ → Bool) where
   pub prune-start : Pruning n stay st₀ li₀ size 0 st₀ li₀ 0
   prune-start = record {
     states = L .states;
@@ -65,7 +65,7 @@ module _ {n : ℕ} {st₀ li₀ : List ℕ} {size : ℕ} (L : Enumerated n st₀
     ahead = λ k l h. refl;
     done = λ k l. absurd (omega arith);
     todo = λ k l h. refl;
-    out = λ c h e. refl;
+    out = λ c e. refl;
     from = λ j l. absurd (omega arith);
     apart = λ i j l h. absurd (omega arith);
     into = λ k l. absurd (omega arith);
@@ -124,7 +124,7 @@ module _ {n : ℕ} {st₀ li₀ : List ℕ} {size : ℕ} (L : Enumerated n st₀
           (λ k l. getD-set-other st c (getD li₀ k 0) 0 0 (L .apart k i l i<) ∙ P .done k l)
           (getD-set-same st c 0 0 in-state ∙ sym (ap (λ x. cond x (getD st₀ c 0) 0) e));
       todo = λ k l h. getD-set-other st c (getD li₀ k 0) 0 0 (λ q. L .apart i k (omega arith) h (sym q)) ∙ P .todo k (omega arith) h;
-      out = λ d h o. getD-set-other st c d 0 0 (λ q. clash (ap (inside st₀) q ∙ L .listed i i<) o) ∙ P .out d h o;
+      out = λ d o. getD-set-other st c d 0 0 (λ q. clash (ap (inside st₀) q ∙ L .listed i i<) o) ∙ P .out d o;
       from = λ j l. let f = P .from j l in (f .0, omega (arith, f .1), f .2, f .3);
       apart = P .apart;
       into = last-or (λ k. stay (getD li₀ k 0) ≡ true → (j : ℕ) × (j < kept) × (getD li j 0 ≡ getD li₀ k 0)) i (P .into) (λ q. clash q e);
@@ -150,23 +150,23 @@ module _ {n : ℕ} {st₀ li₀ : List ℕ} {size : ℕ} (L : Enumerated n st₀
   -- ---- after all
 
   module _ {st li : List ℕ} {kept : ℕ} (P : Pruning n stay st₀ li₀ size size st li kept) where
-    inside-is : (c : ℕ) → c < n → inside st₀ c ≡ true → getD st c 0 ≡ cond (stay c) (getD st₀ c 0) 0
-    inside-is c h e = let k = L .all c h e in subst (λ c. getD st c 0 ≡ cond (stay c) (getD st₀ c 0) 0) (k .2) (P .done (k .0) (k .1))
+    inside-is : (c : ℕ) → inside st₀ c ≡ true → getD st c 0 ≡ cond (stay c) (getD st₀ c 0) 0
+    inside-is c e = let k = L .all c e in subst (λ c. getD st c 0 ≡ cond (stay c) (getD st₀ c 0) 0) (k .2) (P .done (k .0) (k .1))
 
-    pub pruned-at : (c : ℕ) → c < n → inside st c ≡ (inside st₀ c && stay c)
-    pruned-at c h = go (split (inside st₀ c)) (split (stay c))
+    pub pruned-at : (c : ℕ) → inside st c ≡ (inside st₀ c && stay c)
+    pruned-at c = go (split (inside st₀ c)) (split (stay c))
       where
         go : (inside st₀ c ≡ true) ⊎ (inside st₀ c ≡ false) → (stay c ≡ true) ⊎ (stay c ≡ false) → inside st c ≡ (inside st₀ c && stay c)
-        go (inl e) (inl f) = ap (ltb 0) (inside-is c h e ∙ ap (λ x. cond x (getD st₀ c 0) 0) f) ∙ (e ∙ sym (and-intro e f))
-        go (inl e) (inr f) = ap (ltb 0) (inside-is c h e ∙ ap (λ x. cond x (getD st₀ c 0) 0) f) ∙ sym (rw (e, f))
-        go (inr e) f = ap (ltb 0) (P .out c h e) ∙ (e ∙ sym (ap (λ x. x && stay c) e))
+        go (inl e) (inl f) = ap (ltb 0) (inside-is c e ∙ ap (λ x. cond x (getD st₀ c 0) 0) f) ∙ (e ∙ sym (and-intro e f))
+        go (inl e) (inr f) = ap (ltb 0) (inside-is c e ∙ ap (λ x. cond x (getD st₀ c 0) 0) f) ∙ sym (rw (e, f))
+        go (inr e) f = ap (ltb 0) (P .out c e) ∙ (e ∙ sym (ap (λ x. x && stay c) e))
 
-    stayed : (c : ℕ) → c < n → inside st c ≡ true → (inside st₀ c ≡ true) × (stay c ≡ true)
-    stayed c h e =
-        let q = sym (pruned-at c h) ∙ e in
+    stayed : (c : ℕ) → inside st c ≡ true → (inside st₀ c ≡ true) × (stay c ≡ true)
+    stayed c e =
+        let q = sym (pruned-at c) ∙ e in
         (and-left (inside st₀ c) (stay c) q, and-right (inside st₀ c) (stay c) q)
 
-    pruned-list : Enumerated n st li kept
+    pruned-list : Enumerated t n st li kept
     pruned-list = record {
       states = P .states;
       entries = P .entries;
@@ -174,33 +174,33 @@ module _ {n : ℕ} {st₀ li₀ : List ℕ} {size : ℕ} (L : Enumerated n st₀
       below = λ k l. let f = P .from k l in subst (λ c. c < n) (sym (f .2)) (L .below (f .0) (f .1));
       listed = λ k l.
           let f = P .from k l in
-          let h = L .below (f .0) (f .1) in
-          ap (inside st) (f .2) ∙ (pruned-at (getD li₀ (f .0) 0) h ∙ and-intro (L .listed (f .0) (f .1)) (f .3));
+          ap (inside st) (f .2) ∙ (pruned-at (getD li₀ (f .0) 0) ∙ and-intro (L .listed (f .0) (f .1)) (f .3));
+      alive = λ c h e. L .alive c h (stayed c e .0);
       apart = P .apart;
-      all = λ c h e.
-          let y = stayed c h e in
-          let k = L .all c h (y .0) in
+      all = λ c e.
+          let y = stayed c e in
+          let k = L .all c (y .0) in
           let f = P .into (k .0) (k .1) (ap stay (k .2) ∙ y .1) in
           (f .0, f .1, f .2 ∙ k .2);
     }
 
-    pub pruned-correctable : (b : List Bool) → Correctable n b st₀ li₀ size → ((c : ℕ) → c < n → inSet b c ≡ true → stay c ≡ true) → Correctable n b st li kept
+    pub pruned-correctable : (b : List Bool) → Correctable t n b st₀ li₀ size → ((c : ℕ) → c < n → inSet b c ≡ true → stay c ≡ true) → Correctable t n b st li kept
     pruned-correctable b C safe = record {
       list = pruned-list;
       states = λ c h e.
-          let y = stayed c h e in
-          inside-is c h (y .0) ∙ (ap (λ x. cond x (getD st₀ c 0) 0) (y .1) ∙ C .states c h (y .0));
-      based = λ c h e. pruned-at c h ∙ and-intro (C .based c h e) (safe c h e);
+          let y = stayed c e in
+          inside-is c (y .0) ∙ (ap (λ x. cond x (getD st₀ c 0) 0) (y .1) ∙ C .states c h (y .0));
+      based = λ c h e. pruned-at c ∙ and-intro (C .based c h e) (safe c h e);
     }
 
-    pub pruned-set : (t : Tables) (p : Position) (b : List Bool) →
+    pub pruned-set : (p : Position) (b : List Bool) →
         ((c : ℕ) → c < n → inside st₀ c ≡ true → stay c ≡ not (marked t n p b (setOf n st₀) c)) → setOf n st ≡ pruned t n p b (setOf n st₀)
     unfolding pruned
-    pruned-set t p b is =
+    pruned-set p b is =
         ext-getD false (setOf n st) (tabulate n (λ c. inSet s c && not (marked t n p b s c)))
         (set-long n st ∙ sym (tabulate-length n (λ c. inSet s c && not (marked t n p b s c))))
         (λ c l. let h : c < n = omega (arith, set-long n st) in
-        set-at n st c h ∙ (pruned-at c h ∙ (each c h (split (inside st₀ c)) ∙ sym (tabulate-at n (λ c. inSet s c && not (marked t n p b s c)) c false h))))
+        set-at n st c h ∙ (pruned-at c ∙ (each c h (split (inside st₀ c)) ∙ sym (tabulate-at n (λ c. inSet s c && not (marked t n p b s c)) c false h))))
       where
         s : List Bool
         s = setOf n st₀
@@ -212,7 +212,7 @@ module _ {n : ℕ} {st₀ li₀ : List ℕ} {size : ℕ} (L : Enumerated n st₀
 -- ---- a round, and the rounds
 
 module _ {ps cs ns : List ℕ} {np n : ℕ} (M : SomeMesh (tables ps cs ns) np n) (p : Position) {st li : List ℕ} {size : ℕ}
-    (C : Correctable n (base (tables ps cs ns) n p) st li size) {fa exposed : List ℕ} (S : InspectedTo (tables ps cs ns) n p st li size fa exposed) where
+    (C : Correctable (tables ps cs ns) n (base (tables ps cs ns) n p) st li size) {fa exposed : List ℕ} (S : InspectedTo (tables ps cs ns) n p st li size size fa exposed) where
   abbrev t : Tables
   t = tables ps cs ns
 
@@ -227,7 +227,7 @@ module _ {ps cs ns : List ℕ} {np n : ℕ} (M : SomeMesh (tables ps cs ns) np n
   round-is P = record {
     left = pruned-correctable (C .list) (cells-few M) staying P b C
         (λ c h e. sym (stays-base st fa exposed (fourAt cs c) c (C .states c h (C .based c h e) ∙ ap (λ x. cond x 2 1) e)));
-    set = pruned-set (C .list) (cells-few M) staying P t p b (λ c h e. stays-is M p (C .list) S b (C .states) c h e);
+    set = pruned-set (C .list) (cells-few M) staying P p b (λ c h e. stays-is M p (C .list) S b (C .states) c h e);
     fewer = P .kept≤;
     same = P .same;
   }
@@ -237,12 +237,12 @@ pub record Rounding (t : Tables) (n : ℕ) (p : Position) (st₀ : List ℕ) (si
   pub rounds : ℕ
   pub few : rounds + kept ≤ n
   pub is : setOf n st ≡ iterate rounds (pruned t n p (base t n p)) (setOf n st₀)
-  pub left : Correctable n (base t n p) st li kept
+  pub left : Correctable t n (base t n p) st li kept
   pub codes : length fa ≡ 4096
   pub ended : size ≤ kept → (pruned t n p (base t n p) (setOf n st) ≡ setOf n st) × Inspected t n p (setOf n st) st fa
 
 module _ {t : Tables} {n : ℕ} {p : Position} {st₀ : List ℕ} where
-  pub no-round : {size : ℕ} {li fa : List ℕ} {kept : ℕ} → kept < size → Correctable n (base t n p) st₀ li kept → length fa ≡ 4096 →
+  pub no-round : {size : ℕ} {li fa : List ℕ} {kept : ℕ} → kept < size → Correctable t n (base t n p) st₀ li kept → length fa ≡ 4096 →
       Rounding t n p st₀ size st₀ li fa kept
   unfolding iterate
   no-round h C l = record { rounds = 0; few = omega (arith, size≤ (C .list)); is = refl; left = C; codes = l; ended = λ e. absurd (omega arith) }
@@ -282,7 +282,7 @@ pub prune-ends : {n : ℕ} {stay : ℕ → Bool} {st₀ li₀ : List ℕ} {size 
 prune-ends {n} {stay} {st₀} {li₀} {size} {i} {st} {li} {kept} e P = subst (λ k. Pruning n stay st₀ li₀ size k st li kept) e P
 
 -- the listed cell at place i, as the code meets it
-module _ (cs fa exposed : List ℕ) {n : ℕ} {st₀ li₀ : List ℕ} {size : ℕ} (L : Enumerated n st₀ li₀ size) (n≤ : n ≤ 4096)
+module _ (cs fa exposed : List ℕ) {t : Tables} {n : ℕ} {st₀ li₀ : List ℕ} {size : ℕ} (L : Enumerated t n st₀ li₀ size) (n≤ : n ≤ 4096)
     {i : ℕ} {st li : List ℕ} {kept : ℕ} (P : Pruning n (λ c. cellStays st₀ fa exposed (fourAt cs c) c) st₀ li₀ size i st li kept) (i< : i < size) where
   at : getD li i 0 ≡ getD li₀ i 0
   at = P .ahead i (omega arith) i<
@@ -290,10 +290,10 @@ module _ (cs fa exposed : List ℕ) {n : ℕ} {st₀ li₀ : List ℕ} {size : �
   at< : getD li i 0 < n
   at< = subst (λ c. c < n) (sym at) (L .below i i<)
 
-  pub prune-at : {ps ns : List ℕ} {np : ℕ} → SomeMesh (tables ps cs ns) np n → length fa ≡ 4096 → length exposed ≡ 1024 →
+  pub prune-at : {ps ns : List ℕ} {np : ℕ} → SomeMesh (tables ps cs ns) np n → live (tables ps cs ns) (getD li i 0) ≡ true → length fa ≡ 4096 → length exposed ≡ 1024 →
       (i < length li) × (kept < length li) × (getD li i 0 < 4096) × HasCell (getD li i 0) cs × (getD li i 0 < length st) × (getD li i 0 < length fa) × (kept < 4096)
       × ((j : ℕ) → j < 4 → getD (fourAt cs (getD li i 0)) j 0 < length exposed)
-  prune-at M hf hs =
+  prune-at M living hf hs =
       let z = size≤ L in (
         omega (arith, n≤, z, P .entries),
         omega (arith, n≤, z, P .entries, P .kept≤),
@@ -302,7 +302,7 @@ module _ (cs fa exposed : List ℕ) {n : ℕ} {st₀ li₀ : List ℕ} {size : �
         omega (arith, n≤, at<, P .states),
         omega (arith, n≤, at<, hf),
         omega (arith, n≤, z, P .kept≤),
-        λ j l. omega (arith, hs, corner-mark M (getD li i 0) j at< l),
+        λ j l. omega (arith, hs, corner-mark M (getD li i 0) j record { below = at<; lives = living } l),
       )
 
   pub prune-step-at : {st′ li′ : List ℕ} {kept′ : ℕ} →
@@ -317,7 +317,7 @@ module _ (cs fa exposed : List ℕ) {n : ℕ} {st₀ li₀ : List ℕ} {size : �
 -- what a loop keeps that does not see n
 abbrev pub PruningAll : List ℕ → List ℕ → List ℕ → List ℕ → List ℕ → ℕ → ℕ → List ℕ → List ℕ → ℕ → Type 0
 PruningAll cs fa exposed st₀ li₀ size i st li kept =
-    (n : ℕ) → n ≤ 4096 → Enumerated n st₀ li₀ size → Pruning n (λ c. cellStays st₀ fa exposed (fourAt cs c) c) st₀ li₀ size i st li kept
+    (t : Tables) (n : ℕ) → n ≤ 4096 → Enumerated t n st₀ li₀ size → Pruning n (λ c. cellStays st₀ fa exposed (fourAt cs c) c) st₀ li₀ size i st li kept
 
 -- ---- the cavity as a whole
 
@@ -332,6 +332,7 @@ module _ {ps cs ns : List ℕ} {np n : ℕ} (M : SomeMesh (tables ps cs ns) np n
     entries = S .growing .list .entries;
     codes = l;
     held = unheld M a r S e;
+    empty = λ q. none-inside st₀ (λ c i. let k = S .growing .list .all c i in omega (arith, k .1, e));
     list = λ d. absurd (d refl);
     set = λ d. absurd (d refl);
     coded = λ d. absurd (d refl);
@@ -341,20 +342,20 @@ module _ {ps cs ns : List ℕ} {np n : ℕ} (M : SomeMesh (tables ps cs ns) np n
   }
 
   module _ (d : g₀ .size ≢ 0) {st₁ li₁ : List ℕ} {g : Gathered} (G : Reached a u p n st₁ li₁ g) (all : setOf n st₁ ≡ cavityOf u n p (saysYes a u p)) where
-    pub grown-correctable : Correctable n (base u n p) st₁ li₁ (g .size)
+    pub grown-correctable : Correctable u n (base u n p) st₁ li₁ (g .size)
     grown-correctable = record { list = G .growing .list; states = G .growing .states; based = G .based }
 
     some : g .size ≢ 0
     some e =
         let f = any-found n (holds u p) (held M a r S d) in
-        let k = G .growing .list .all (f .at) (f .below) (G .based (f .at) (f .below) (base-at u n p (f .at) (f .below) ∙ f .passes)) in
+        let k = G .growing .list .all (f .at) (G .based (f .at) (f .below) (base-at u n p (f .at) (f .below) ∙ f .passes)) in
         omega (arith, k .1, e)
 
-    size-is : {st li : List ℕ} {size : ℕ} {s : List Bool} → Enumerated n st li size → setOf n st ≡ s → size ≡ cavitySize n s
+    size-is : {st li : List ℕ} {size : ℕ} {s : List Bool} → Enumerated u n st li size → setOf n st ≡ s → size ≡ cavitySize n s
     unfolding cavitySize
     size-is {st} {li} {size} {s} L e = sym (L .counted) ∙ (count-cong n (inside st) (inSet (setOf n st)) (λ k h. sym (set-at n st k h)) ∙ ap (λ s. countBelow n (inSet s)) e)
 
-    pub found-cavity : {st li fa : List ℕ} {after : ℕ} → Enumerated n st li after → length fa ≡ 4096 → setOf n st ≡ corrected u n p (base u n p) (setOf n st₁) →
+    pub found-cavity : {st li fa : List ℕ} {after : ℕ} → Enumerated u n st li after → length fa ≡ 4096 → setOf n st ≡ corrected u n p (base u n p) (setOf n st₁) →
         Inspected u n p (setOf n st) st fa → CavityFound a u p n st li fa record { before = g .size; after = after; least = g .least }
     unfolding correctedCavity
     found-cavity {st} {li} {fa} {after} L l e I =
@@ -364,6 +365,7 @@ module _ {ps cs ns : List ℕ} {np n : ℕ} (M : SomeMesh (tables ps cs ns) np n
           entries = L .entries;
           codes = l;
           held = held M a r S d ∙ sym (ap not (ne-eqb (g .size) 0 some));
+          empty = λ x. absurd (some x);
           list = λ x. L;
           set = λ x. is;
           coded = λ x. I;

@@ -13,7 +13,7 @@ use Rattle.arith.proofs.Flags.{clash, and-left, and-right, and-intro, or-cases}
 use Rattle.arith.proofs.Tables.{all-at, all-intro, any-found, Found}
 use Rattle.arith.proofs.Order.{≡→≤, ltZ-true, lt-ltZ, leZ-true, le-leZ}
 use Rattle.geometry.specs.declared.Position.{Position}
-use Rattle.mesh.specs.Tables.{Tables, none, cellOf, corner, across, side, faceHas}
+use Rattle.mesh.specs.Tables.{Tables, none, cellOf, corner, across, side, faceHas, live, IsCell}
 use Rattle.mesh.proofs.Links.{on-face-of}
 use Rattle.mesh.proofs.Held.{Holds, side-at}
 use Rattle.cavity.specs.Cavity.{outer, inSet, visible, coplanar, facesGood, cornersGood}
@@ -76,11 +76,13 @@ coplanar-yes t p f h k = and-intro (eq-eqb (across t f) none h) (zero-yes (side 
 
 pub holds-of : (t : Tables) (p : Position) (c : ℕ) → holds t p c ≡ true → Holds t p c
 unfolding holds Holds
-holds-of t p c e k h = subst (λ z. pos 0 ≤ℤ z) (side-at t p c k h) (leZ-true (pos 0) (side t p (4 * c + k)) (all-at 4 (λ k. leZ (pos 0) (side t p (4 * c + k))) e k h))
+holds-of t p c e k h =
+    subst (λ z. pos 0 ≤ℤ z) (side-at t p c k h)
+    (leZ-true (pos 0) (side t p (4 * c + k)) (all-at 4 (λ k. leZ (pos 0) (side t p (4 * c + k))) (and-right (live t c) _ e) k h))
 
-pub holds-yes : (t : Tables) (p : Position) (c : ℕ) → Holds t p c → holds t p c ≡ true
+pub holds-yes : (t : Tables) (p : Position) (c : ℕ) → live t c ≡ true → Holds t p c → holds t p c ≡ true
 unfolding holds Holds
-holds-yes t p c h = all-intro 4 (λ k. leZ (pos 0) (side t p (4 * c + k))) (λ k l. le-leZ (subst (λ z. pos 0 ≤ℤ z) (sym (side-at t p c k l)) (h k l)))
+holds-yes t p c a h = and-intro a (all-intro 4 (λ k. leZ (pos 0) (side t p (4 * c + k))) (λ k l. le-leZ (subst (λ z. pos 0 ≤ℤ z) (sym (side-at t p c k l)) (h k l))))
 
 pub faces-good : (t : Tables) (p : Position) (s : List Bool) (c k : ℕ) → facesGood t p s c ≡ true → k < 4 → outer (across t) (inSet s) (4 * c + k) ≡ true →
     (visible t p s (4 * c + k) ≡ true) ⊎ (coplanar t p (4 * c + k) ≡ true)
@@ -96,15 +98,15 @@ faces-good t p s c k e h o = go (or-cases _ (coplanar t p (4 * c + k) || visible
         by (inl r) = inr r
         by (inr r) = inl r
 
-pub corners-good : (t : Tables) (n : ℕ) (p : Position) (s : List Bool) (c k : ℕ) → cornersGood t n p s c ≡ true → k < 4 → Exposed t n p s (corner t c k)
+pub corners-good : (t : Tables) (n : ℕ) (p : Position) (s : List Bool) → ((c : ℕ) → inSet s c ≡ true → IsCell t n c) → (c k : ℕ) → cornersGood t n p s c ≡ true → k < 4 → Exposed t n p s (corner t c k)
 unfolding cornersGood
-corners-good t n p s c k e h =
+corners-good t n p s cells c k e h =
     go (any-found (4 * n) (λ f. visible t p s f && faceHas t f (corner t c k)) (all-at 4 (λ k. anyBelow (4 * n) (λ f. visible t p s f && faceHas t f (corner t c k))) e k h))
   where
     go : Found (4 * n) (λ f. visible t p s f && faceHas t f (corner t c k)) → Exposed t n p s (corner t c k)
     go q = record {
       face = q .at;
-      face< = q .below;
+      face< = cells (cellOf (q .at)) (visible-of t p s (q .at) (and-left (visible t p s (q .at)) (faceHas t (q .at) (corner t c k)) (q .passes)) .held);
       face-visible = and-left (visible t p s (q .at)) (faceHas t (q .at) (corner t c k)) (q .passes);
       on = on-face-of t (q .at) (corner t c k) (and-right (visible t p s (q .at)) (faceHas t (q .at) (corner t c k)) (q .passes));
     }

@@ -16,18 +16,20 @@ use Rattle.arith.proofs.Counting.{count-none}
 use Rattle.arith.proofs.Tables.{tabulate-length, tabulate-at, any-found, any-intro, Found, first-is, all-intro, all-at, below-more}
 use Rattle.geometry.specs.declared.Position.{Position}
 use Rattle.geometry.specs.Volume.{InRange}
-use Rattle.mesh.specs.Tables.{Tables, none, cellOf, opposite, across, tables}
+use Rattle.mesh.specs.Tables.{Tables, none, cellOf, opposite, across, tables, live, IsFace}
 use Rattle.mesh.specs.Inner.{fourAt, SomeMesh}
 use Rattle.mesh.proofs.Numbers.{four-entry}
-use Rattle.mesh.proofs.FaceNumbers.{face-cell, face-eq, opposite<}
+use Rattle.mesh.proofs.FaceNumbers.{face-cell, face-eq, opposite<, face-in}
 use Rattle.locate.specs.Locate.{holds}
 use Rattle.cavity.specs.declared.Gathered.{Gathered}
 use Rattle.cavity.specs.Answers.{Answers, saysYes, reportT, leastT}
 use Rattle.cavity.specs.Cavity.{inSet, base, cavity, cavityOf}
 use Rattle.cavity.specs.Inner.{inside, setOf}
 use Rattle.cavity.specs.Inner.Growth.{withCell, Lowest, Growing, Scanned, Reached, Grew, Neighbour, InsideIfYes, Empty}
-use Rattle.cavity.proofs.Correction.{base-long, base-at, base-below, cavity-has}
+use Rattle.cavity.proofs.Correction.{base-long, base-at, base-below, base-cell, cavity-cells, cavity-has}
+use Rattle.locate.proofs.Codes.{holds-live}
 use Rattle.cavity.proofs.Growth.{cavity-closed, cavity-is}
+use Rattle.mesh.proofs.Faces.{across-cell}
 use Rattle.mesh.proofs.Reading.{cells-few, room, across-at}
 use Rattle.cavity.proofs.Answering.{whole-report}
 use Rattle.cavity.proofs.Gathering.{growing-more, joined-each, joined-cell, joined-in, joined-other, grew-join, inside-stays}
@@ -87,7 +89,7 @@ module _ {ps cs ns : List ℕ} {np n : ℕ} (M : SomeMesh (tables ps cs ns) np n
     scan-join h e ex eg es el =
         rw (eg, es, el, ex)
         record {
-          growing = growing-more (S .growing) (cells-few M) c h (not-yet h) 2 (sym (ap (λ x. cond x 2 1) (base-at t n p c h ∙ e))) (λ k l. whole-report M a k l r);
+          growing = growing-more (S .growing) (cells-few M) c h (holds-live t p c e) (not-yet h) 2 (sym (ap (λ x. cond x 2 1) (base-at t n p c h ∙ e))) (λ k l. whole-report M a k l r);
           exactly = λ k l. go k l (ℕ-discrete k c);
         }
       where
@@ -109,8 +111,9 @@ module _ {ps cs ns : List ℕ} {np n : ℕ} (M : SomeMesh (tables ps cs ns) np n
         counted = none-counted n;
         below = λ k h. absurd (omega arith);
         listed = λ k h. absurd (omega arith);
+        alive = λ c h e. clash e (out c);
         apart = λ i k l h. absurd (omega arith);
-        all = λ c h e. clash e (out c);
+        all = λ c e. clash e (out c);
       };
       states = λ c h e. clash e (out c);
       lowest = λ h. absurd (omega arith);
@@ -142,7 +145,7 @@ module _ {ps cs ns : List ℕ} {np n : ℕ} (M : SomeMesh (tables ps cs ns) np n
       where
         no : Found n (holds t p) → ⊥
         no f =
-            let l = S .growing .list .all (f .at) (f .below) (scanned-at (f .at) (f .below) ∙ (base-at t n p (f .at) (f .below) ∙ f .passes)) in
+            let l = S .growing .list .all (f .at) (scanned-at (f .at) (f .below) ∙ (base-at t n p (f .at) (f .below) ∙ f .passes)) in
             omega (arith, l .1, e)
 
     pub held : g .size ≢ 0 → anyBelow n (holds t p) ≡ true
@@ -161,26 +164,29 @@ module _ {ps cs ns : List ℕ} {np n : ℕ} (M : SomeMesh (tables ps cs ns) np n
     visit-join c h out e ex eg es el =
         rw (eg, es, el, ex) (
           record {
-            growing = growing-more (G .growing) (cells-few M) c h out 1 kind (λ k l. whole-report M a k l r);
-            based = λ k l b. grew-join (G .growing) (cells-few M) c h out 1 kind .keeps k l (G .based k l b);
-            sound = joined-each (G .growing) (cells-few M) c h out 1 kind (λ k. inSet (cavityOf t n p yes?) k ≡ true) (G .sound) e;
+            growing = growing-more (G .growing) (cells-few M) c h living out 1 kind (λ k l. whole-report M a k l r);
+            based = λ k l b. grew-join (G .growing) (cells-few M) c h living out 1 kind .keeps k l (G .based k l b);
+            sound = joined-each (G .growing) (cells-few M) c h living out 1 kind (λ k. inSet (cavityOf t n p yes?) k ≡ true) (G .sound) e;
           },
-          grew-join (G .growing) (cells-few M) c h out 1 kind,
-          λ d y. joined-cell (G .growing) (cells-few M) c h out 1 kind,
+          grew-join (G .growing) (cells-few M) c h living out 1 kind,
+          λ d y. joined-cell (G .growing) (cells-few M) c h living out 1 kind,
         )
       where
+        living : live t c ≡ true
+        living = unfold cavityOf in cavity-cells t n p yes? (base t n p) (base-cell t n p) c e .lives
+
         kind : _≡_ {A = ℕ} 1 (cond (inSet (base t n p) c) 2 1)
         kind = sym (ap (λ x. cond x 2 1) (fails (inSet (base t n p) c) (λ b. clash (G .based c h b) out)))
 
     pub neighbour-of : (c j : ℕ) → c < n → inside st c ≡ true → j < 4 → Neighbour a t p n (across t (4 * c + j))
     unfolding cavityOf
     neighbour-of c j h e l real = (
-      M .mesh .across< (4 * c + j) f< real,
+      across-cell (M .mesh) (room M) (4 * c + j) f< real,
       λ y. cavity-closed (M .mesh) (room M) yes? (base t n p) (base-long t n p) (4 * c + j) f< (ap (inSet (cavity t n yes? (base t n p))) (face-cell c j l) ∙ G .sound c h e) real y,
     )
       where
-        f< : 4 * c + j < 4 * n
-        f< = omega arith
+        f< : IsFace t n (4 * c + j)
+        f< = face-in c j l record { below = h; lives = G .growing .list .alive c h e }
 
     -- the neighbours of the listed cell at place h, as the table has them
     module _ (h : ℕ) (h< : h < g .size) {u : List ℕ} (e : u ≡ fourAt ns (getD li h 0)) where
@@ -212,17 +218,17 @@ module _ {ps cs ns : List ℕ} {np n : ℕ} (M : SomeMesh (tables ps cs ns) np n
         close
         (λ c e. let i = in-set n st c e in G .sound c (i .0) (i .1))
       where
-        close : (f : ℕ) → f < 4 * n → inSet (setOf n st) (cellOf f) ≡ true → across t f ≢ none → yes? (across t f) ≡ true → inSet (setOf n st) (across t f) ≡ true
+        close : (f : ℕ) → IsFace t n f → inSet (setOf n st) (cellOf f) ≡ true → across t f ≢ none → yes? (across t f) ≡ true → inSet (setOf n st) (across t f) ≡ true
         close f f< e real y =
             let i = in-set n st (cellOf f) e in
-            let k = G .growing .list .all (cellOf f) (i .0) (i .1) in
+            let k = G .growing .list .all (cellOf f) (i .1) in
             let q : 4 * getD li (k .0) 0 + opposite f ≡ f = ap (λ c. 4 * c + opposite f) (k .2) ∙ face-eq f in
             let w : inside st (across t f) ≡ true = subst (λ g. InsideIfYes a t p st (across t g)) q (closed (k .0) (opposite f) (k .1) (opposite< f)) real y in
             set-at n st (across t f) (M .mesh .across< f f< real) ∙ w
 
   -- ---- the least T
 
-  pub least-is : {st li : List ℕ} {g : Gathered} → Growing T n (base t n p) st li g → 0 < g .size → {s : List Bool} → setOf n st ≡ s → g .least ≡ leastT T n s
+  pub least-is : {st li : List ℕ} {g : Gathered} → Growing t T n (base t n p) st li g → 0 < g .size → {s : List Bool} → setOf n st ≡ s → g .least ≡ leastT T n s
   unfolding leastT
   least-is {st} {li} {g} G h {s} e =
       O .is ∙

@@ -8,7 +8,7 @@ use lib.IntN.{pos}
 use lib.Signed.{ltZ}
 use Rattle.arith.specs.Table.{tabulate, anyBelow, allBelow, countBelow, iterate}
 use Rattle.geometry.specs.declared.Position.{Position}
-use Rattle.mesh.specs.Tables.{Tables, none, cellOf, corner, across, side, faceHas}
+use Rattle.mesh.specs.Tables.{Tables, none, cellOf, corner, across, side, faceHas, live}
 use Rattle.mesh.specs.Check.{sameZ}
 use Rattle.locate.specs.Locate.{holds}
 
@@ -21,9 +21,9 @@ unfoldable pub base : Tables → ℕ → Position → List Bool
 base t n p = tabulate n (holds t p)
 
 -- 'each neighbour of a spot cell whose answer is yes': one round of growing. Said from the neighbour's end: in a mesh c names a cell of the
--- set across a face just where that cell names c (`either-way` in proofs/Growth).
+-- set across a face just where that cell names c (`either-way` in proofs/Growth). 'a freed entry's answer is ignored' (document 02 §11).
 unfoldable pub grown : Tables → ℕ → (ℕ → Bool) → List Bool → List Bool
-grown t n yes? s = tabulate n (λ c. inSet s c || (yes? c && anyBelow 4 (λ k. inSet s (across t (4 * c + k)))))
+grown t n yes? s = tabulate n (λ c. inSet s c || ((live t c && yes? c) && anyBelow 4 (λ k. inSet s (across t (4 * c + k)))))
 
 -- 'Spot: the base, and again and again each neighbour': n rounds reach the end (`cavity-fixed` in proofs/Growth)
 unfoldable pub cavity : Tables → ℕ → (ℕ → Bool) → List Bool → List Bool

@@ -14,7 +14,7 @@ use mir.Val.{boolByte}
 use Rattle.arith.specs.Table.{tabulate, countBelow, anyBelow}
 use Rattle.geometry.specs.declared.Position.{Position}
 use Rattle.geometry.specs.Volume.{InRange}
-use Rattle.mesh.specs.Tables.{Tables, across}
+use Rattle.mesh.specs.Tables.{Tables, across, live}
 use Rattle.mesh.specs.Inner.{SomeMesh}
 use Rattle.locate.specs.Locate.{holds}
 use Rattle.cavity.specs.declared.Node.{Node}
@@ -24,27 +24,35 @@ use Rattle.cavity.specs.Cavity.{inSet, cavityOf, correctedCavity, cavity
 
 -- a mesh, a position, and enough answers where they are handed in
 pub record Answerable (t : Tables) (bytes : List ℕ) (d : Node) : Type 0 where
-  pub mesh : SomeMesh t (d .points) (d .cells)
+  pub mesh : SomeMesh t (d .points) (d .used)
   pub position : InRange (d .position)
-  pub answered : d .handed ≡ true → d .cells ≤ length bytes
+  pub answered : d .handed ≡ true → d .used ≤ length bytes
 
 -- a cell's state: 0 outside the cavity, 1 in it, 2 in the base too
 abbrev pub inside : List ℕ → ℕ → Bool
 inside st c = ltb 0 (getD st c 0)
 
--- the set of n cells that the states st give
+-- the set among n entries that the states st give
 unfoldable pub setOf : ℕ → List ℕ → List Bool
 setOf n st = tabulate n (inside st)
 
--- the first entries of li are the cells inside, each one time
-pub record Enumerated (n : ℕ) (st li : List ℕ) (size : ℕ) : Type 0 where
+-- the first entries of li are the cells inside, each one time; they are cells of t
+pub record Enumerated (t : Tables) (n : ℕ) (st li : List ℕ) (size : ℕ) : Type 0 where
   pub states : length st ≡ 4096
   pub entries : length li ≡ 4096
   pub counted : countBelow n (inside st) ≡ size
   pub below : (k : ℕ) → k < size → getD li k 0 < n
   pub listed : (k : ℕ) → k < size → inside st (getD li k 0) ≡ true
   pub apart : (i k : ℕ) → i < k → k < size → getD li i 0 ≢ getD li k 0
-  pub all : (c : ℕ) → c < n → inside st c ≡ true → (k : ℕ) × (k < size) × (getD li k 0 ≡ c)
+  pub alive : (c : ℕ) → c < n → inside st c ≡ true → live t c ≡ true
+  pub all : (c : ℕ) → inside st c ≡ true → (k : ℕ) × (k < size) × (getD li k 0 ≡ c)
+
+-- the same in some tables
+pub record Listed (st li : List ℕ) (size : ℕ) : Type 0 where
+  pub t : Tables
+  pub n : ℕ
+  pub few : n ≤ 4096
+  pub list : Enumerated t n st li size
 
 -- ---- faces
 
@@ -68,13 +76,15 @@ Inspected t n p s st fa = (c : ℕ) → c < n → inside st c ≡ true → getD 
 
 -- ---- all of it
 
--- what was found of the cavity at p: its corrected set, listed and with its faces' codes, its sizes and least T; or no size where no cell holds p
+-- what was found of the cavity at p: its corrected set, listed and with its faces' codes, its sizes and least T; or, where no cell holds p, no
+-- size and no state
 pub record CavityFound (a : Answers) (t : Tables) (p : Position) (n : ℕ) (st li fa : List ℕ) (r : Extent) : Type 0 where
   pub states : length st ≡ 4096
   pub entries : length li ≡ 4096
   pub codes : length fa ≡ 4096
   pub held : anyBelow n (holds t p) ≡ not (eqb (r .before) 0)
-  pub list : r .before ≢ 0 → Enumerated n st li (r .after)
+  pub empty : r .before ≡ 0 → (k : ℕ) → getD st k 0 ≡ 0
+  pub list : r .before ≢ 0 → Enumerated t n st li (r .after)
   pub set : r .before ≢ 0 → setOf n st ≡ correctedCavity t n p (saysYes a t p)
   pub coded : r .before ≢ 0 → Inspected t n p (setOf n st) st fa
   pub before-is : r .before ≢ 0 → r .before ≡ cavitySize n (cavityOf t n p (saysYes a t p))

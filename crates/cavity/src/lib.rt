@@ -3,12 +3,13 @@
 
 use geometry::Position;
 
-// A node to insert: where it lies, how many points and cells the mesh has, how long the work area is, and whether answers are
-// handed in.
+// A node to insert: where it lies, how many points and cells the mesh has and how many entries are in use, how long the work area is,
+// and whether answers are handed in.
 pub struct Node {
     pub position: Position,
     pub points: usize,
     pub cells: usize,
+    pub used: usize,
     pub work: usize,
     pub handed: bool,
 }

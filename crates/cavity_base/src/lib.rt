@@ -3,7 +3,7 @@
 ghost use mathlib.Core.Path.{_≡_};
 ghost use Prim.Native.Nat.{_+_, _<_};
 ghost use lib.ListN.{length, set};
-ghost use Rattle.mesh.specs.Tables.{tablesIn, tablesBefore};
+ghost use Rattle.mesh.specs.Tables.{tablesIn, tablesBefore, IsCell};
 ghost use Rattle.locate.specs.Inner.{sideCodes};
 ghost use Rattle.cavity.specs.Answers.{answersOf};
 ghost use Rattle.cavity.specs.Inner.{Answerable};
@@ -14,7 +14,7 @@ use cavity::Node;
 use insphere::Sphere;
 use insphere::sphere_answer;
 use locate_holding::cell_holds;
-use locate_holding::shared_bits;
+use locate_holding::may_hold;
 use mesh_tables::four_at;
 use mesh_tables::positions;
 
@@ -27,7 +27,7 @@ pub fn answer_of(
     node: Node,
     c: usize,
 ) -> Answer
-    requires { ⌜ Answerable (tablesIn points corners neighbours) (now answers) node × (c < node .cells) ⌝ }
+    requires { ⌜ Answerable (tablesIn points corners neighbours) (now answers) node × IsCell (tablesIn points corners neighbours) (node .used) c ⌝ }
     ensures { λ r. ⌜ r ≡ answerFor (answersOf (node .handed) (now (answers .entry))) (tablesBefore points corners neighbours) (node .position) c ⌝ }
 {
     let handed = node.handed;
@@ -102,11 +102,11 @@ fn try_base(
     list: &mut [u16],
     g: Gathered,
 ) -> Gathered
-    requires { ⌜ Answerable (tablesIn points corners neighbours) (now answers) node × (c < node .cells)
-        × Scanned (answersOf (node .handed) (now answers)) (tablesIn points corners neighbours) (node .position) (node .cells) c
+    requires { ⌜ Answerable (tablesIn points corners neighbours) (now answers) node × IsCell (tablesIn points corners neighbours) (node .used) c
+        × Scanned (answersOf (node .handed) (now answers)) (tablesIn points corners neighbours) (node .position) (node .used) c
         (now state) (now list) g ⌝ }
     ensures { λ r. ⌜ Scanned (answersOf (node .handed) (now (answers .entry))) (tablesBefore points corners neighbours)
-        (node .position) (node .cells) (c + 1) (now (state .exit)) (now (list .exit)) r ⌝ }
+        (node .position) (node .used) (c + 1) (now (state .exit)) (now (list .exit)) r ⌝ }
 {
     let q = node.position;
     if !cell_holds(points, four_at(corners, c), q) {
@@ -116,7 +116,7 @@ fn try_base(
     join(state, list, g, c, a.t, 2)
 }
 
-// Every cell that holds the node. Side codes rule most cells out here in the loop: a call for each would cost more.
+// Every cell that holds the node. Side codes rule most entries out here in the loop: a call for each would cost more.
 pub fn find_base(
     points: &[u32],
     corners: &[u16],
@@ -130,9 +130,9 @@ pub fn find_base(
     requires { ⌜ Answerable (tablesIn points corners neighbours) (now answers) node × (now codes ≡ sideCodes (now points) (node .points) (node .position))
         × Empty (now state) (now list) ⌝ }
     ensures { λ r. ⌜ Scanned (answersOf (node .handed) (now (answers .entry))) (tablesBefore points corners neighbours)
-        (node .position) (node .cells) (node .cells) (now (state .exit)) (now (list .exit)) r ⌝ }
+        (node .position) (node .used) (node .used) (now (state .exit)) (now (list .exit)) r ⌝ }
 {
-    let n = node.cells;
+    let n = node.used;
     let mut g = Gathered {
         size: 0,
         least: 0.0,
@@ -140,7 +140,7 @@ pub fn find_base(
     };
     let mut c: usize = 0;
     while c < n {
-        if shared_bits(codes, four_at(corners, c)) == 0 {
+        if may_hold(codes, four_at(corners, c)) {
             g = try_base(
                 points,
                 corners,

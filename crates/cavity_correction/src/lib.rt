@@ -9,6 +9,7 @@ ghost use Rattle.cavity.specs.Cavity.{base, corrected};
 ghost use Rattle.cavity.specs.Inner.{setOf, Enumerated, Inspected};
 ghost use Rattle.cavity.specs.Inner.Correction.{Correctable, Round};
 use cavity::Node;
+use cavity_faces::hide_corners;
 use cavity_faces::inspect_all;
 use cavity_prune::prune;
 
@@ -22,14 +23,15 @@ fn round(
     state: &mut [u8],
     list: &mut [u16],
     faces: &mut [u8],
+    exposed: &mut [u8],
 ) -> usize
-    requires { ⌜ SomeMesh (tablesIn points corners neighbours) (node .points) (node .cells) × InRange (node .position)
-        × Correctable (node .cells) (base (tablesIn points corners neighbours) (node .cells) (node .position)) (now state) (now list) size × (length (now faces) ≡ 4096) ⌝ }
-    ensures { λ r. ⌜ Round (tablesBefore points corners neighbours) (node .cells) (node .position) (now (state .entry)) size (now (state .exit)) (now (list .exit)) r
-        × (length (now (faces .exit)) ≡ 4096)
-        × Inspected (tablesBefore points corners neighbours) (node .cells) (node .position) (setOf (node .cells) (now (state .entry))) (now (state .entry)) (now (faces .exit)) ⌝ }
+    requires { ⌜ SomeMesh (tablesIn points corners neighbours) (node .points) (node .used) × InRange (node .position)
+        × Correctable (tablesIn points corners neighbours) (node .used) (base (tablesIn points corners neighbours) (node .used) (node .position)) (now state) (now list) size × (length (now faces) ≡ 4096) × (length (now exposed) ≡ 1024) ⌝ }
+    ensures { λ r. ⌜ Round (tablesBefore points corners neighbours) (node .used) (node .position) (now (state .entry)) size (now (state .exit)) (now (list .exit)) r
+        × (length (now (faces .exit)) ≡ 4096) × (length (now (exposed .exit)) ≡ 1024)
+        × Inspected (tablesBefore points corners neighbours) (node .used) (node .position) (setOf (node .used) (now (state .entry))) (now (state .entry)) (now (faces .exit)) ⌝ }
 {
-    let mut exposed = [0u8; 1024];
+    hide_corners(corners, list, size, exposed);
     inspect_all(
         points,
         corners,
@@ -39,7 +41,7 @@ fn round(
         list,
         size,
         faces,
-        &mut exposed,
+        exposed,
     );
     prune(
         points,
@@ -47,7 +49,7 @@ fn round(
         neighbours,
         node,
         faces,
-        &exposed,
+        exposed,
         size,
         state,
         list,
@@ -64,18 +66,29 @@ pub fn correct(
     state: &mut [u8],
     list: &mut [u16],
     faces: &mut [u8],
+    exposed: &mut [u8],
 ) -> usize
-    requires { ⌜ SomeMesh (tablesIn points corners neighbours) (node .points) (node .cells) × InRange (node .position)
-        × Correctable (node .cells) (base (tablesIn points corners neighbours) (node .cells) (node .position)) (now state) (now list) before × (length (now faces) ≡ 4096) ⌝ }
-    ensures { λ r. ⌜ Enumerated (node .cells) (now (state .exit)) (now (list .exit)) r × (length (now (faces .exit)) ≡ 4096)
-        × (setOf (node .cells) (now (state .exit)) ≡ corrected (tablesBefore points corners neighbours) (node .cells) (node .position) (base (tablesBefore points corners neighbours) (node .cells) (node .position)) (setOf (node .cells) (now (state .entry))))
-        × Inspected (tablesBefore points corners neighbours) (node .cells) (node .position) (setOf (node .cells) (now (state .exit))) (now (state .exit)) (now (faces .exit)) ⌝ }
+    requires { ⌜ SomeMesh (tablesIn points corners neighbours) (node .points) (node .used) × InRange (node .position)
+        × Correctable (tablesIn points corners neighbours) (node .used) (base (tablesIn points corners neighbours) (node .used) (node .position)) (now state) (now list) before × (length (now faces) ≡ 4096) × (length (now exposed) ≡ 1024) ⌝ }
+    ensures { λ r. ⌜ Enumerated (tablesBefore points corners neighbours) (node .used) (now (state .exit)) (now (list .exit)) r × (length (now (faces .exit)) ≡ 4096) × (length (now (exposed .exit)) ≡ 1024)
+        × (setOf (node .used) (now (state .exit)) ≡ corrected (tablesBefore points corners neighbours) (node .used) (node .position) (base (tablesBefore points corners neighbours) (node .used) (node .position)) (setOf (node .used) (now (state .entry))))
+        × Inspected (tablesBefore points corners neighbours) (node .used) (node .position) (setOf (node .used) (now (state .exit))) (now (state .exit)) (now (faces .exit)) ⌝ }
 {
     let mut size = before + 1;
     let mut kept = before;
     while kept < size {
         size = kept;
-        kept = round(points, corners, neighbours, node, size, state, list, faces);
+        kept = round(
+            points,
+            corners,
+            neighbours,
+            node,
+            size,
+            state,
+            list,
+            faces,
+            exposed,
+        );
     }
     kept
 }

@@ -1,14 +1,15 @@
 // The faces of a cavity's cells, visible or hidden, and the points that are on a visible one.
 
+ghost use mathlib.Core.List.{[]};
 ghost use mathlib.Core.Path.{_≡_};
 ghost use mathlib.Core.Logic.{_≢_};
 ghost use Prim.Native.Nat.{ℕ, _≤_, _<_};
 ghost use lib.ListN.{length, getD, set};
 ghost use Rattle.geometry.specs.Volume.{InRange};
-ghost use Rattle.mesh.specs.Tables.{none, tablesIn, tablesBefore};
+ghost use Rattle.mesh.specs.Tables.{none, tables, tablesIn, tablesBefore, IsCell};
 ghost use Rattle.mesh.specs.Inner.{fourAt, SomeMesh};
 ghost use Rattle.cavity.specs.Inner.{Enumerated};
-ghost use Rattle.cavity.specs.Inner.Correction.{wallKind, faceKind, faceKinds, kindsCode, withFace, withFaces, InspectedTo};
+ghost use Rattle.cavity.specs.Inner.Correction.{wallKind, faceKind, faceKinds, kindsCode, withFace, withFaces, NoneExposed, CornersListed, withoutCorners, InspectedTo};
 use cavity::Node;
 use geometry::volume::volumes_at;
 use mesh_tables::four_at;
@@ -54,8 +55,8 @@ fn face_kinds(
     state: &[u8],
     c: usize,
 ) -> [u8; 4]
-    requires { ⌜ SomeMesh (tablesIn points corners neighbours) (node .points) (node .cells) × InRange (node .position)
-        × (length (now state) ≡ 4096) × (c < node .cells) ⌝ }
+    requires { ⌜ SomeMesh (tablesIn points corners neighbours) (node .points) (node .used) × InRange (node .position)
+        × (length (now state) ≡ 4096) × IsCell (tablesIn points corners neighbours) (node .used) c ⌝ }
     ensures { λ r. ⌜ r ≡ faceKinds (tablesBefore points corners neighbours) (node .position) (now (state .entry)) c ⌝ }
 {
     let q = node.position;
@@ -117,7 +118,7 @@ fn inspect(
     faces: &mut [u8],
     exposed: &mut [u8],
 )
-    requires { ⌜ SomeMesh (tablesIn points corners neighbours) (node .points) (node .cells) × InRange (node .position) × (length (now state) ≡ 4096) × (c < node .cells)
+    requires { ⌜ SomeMesh (tablesIn points corners neighbours) (node .points) (node .used) × InRange (node .position) × (length (now state) ≡ 4096) × IsCell (tablesIn points corners neighbours) (node .used) c
         × (length (now faces) ≡ 4096) × (length (now exposed) ≡ 1024) ⌝ }
     ensures { λ _. ⌜ (now (faces .exit) ≡ set (now (faces .entry)) c (kindsCode (faceKinds (tablesBefore points corners neighbours) (node .position) (now (state .entry)) c)))
         × (now (exposed .exit) ≡ withFaces 4 (now (exposed .entry)) (faceKinds (tablesBefore points corners neighbours) (node .position) (now (state .entry)) c)
@@ -126,6 +127,29 @@ fn inspect(
     let k = face_kinds(points, corners, neighbours, node, state, c);
     faces[c] = code_of(k);
     mark_faces(exposed, k, four_at(corners, c));
+}
+
+// Four points are marked no longer.
+fn hide(exposed: &mut [u8], k: [u16; 4])
+    requires { ⌜ ((j : ℕ) → j < 4 → getD k j 0 < length (now exposed)) ⌝ }
+    ensures { λ _. ⌜ now (exposed .exit) ≡ withoutCorners (now (exposed .entry)) k ⌝ }
+{
+    exposed[k[0] as usize] = 0;
+    exposed[k[1] as usize] = 0;
+    exposed[k[2] as usize] = 0;
+    exposed[k[3] as usize] = 0;
+}
+
+// No corner of a listed cell is marked: these are all that a round asks for, so that marks of earlier rounds and nodes may stay elsewhere.
+pub fn hide_corners(corners: &[u16], list: &[u16], size: usize, exposed: &mut [u8])
+    requires { ⌜ CornersListed (now corners) (now list) size × (length (now exposed) ≡ 1024) ⌝ }
+    ensures { λ _. ⌜ NoneExposed (tables [] (now (corners .entry)) []) (now (list .entry)) size (now (exposed .exit)) ⌝ }
+{
+    let mut h: usize = 0;
+    while h < size {
+        hide(exposed, four_at(corners, list[h] as usize));
+        h += 1;
+    }
 }
 
 // The listed cells one by one.
@@ -140,9 +164,9 @@ pub fn inspect_all(
     faces: &mut [u8],
     exposed: &mut [u8],
 )
-    requires { ⌜ SomeMesh (tablesIn points corners neighbours) (node .points) (node .cells) × InRange (node .position) × Enumerated (node .cells) (now state) (now list) size
-        × InspectedTo (tablesIn points corners neighbours) (node .cells) (node .position) (now state) (now list) 0 (now faces) (now exposed) ⌝ }
-    ensures { λ _. ⌜ InspectedTo (tablesBefore points corners neighbours) (node .cells) (node .position) (now (state .entry)) (now (list .entry)) size
+    requires { ⌜ SomeMesh (tablesIn points corners neighbours) (node .points) (node .used) × InRange (node .position) × Enumerated (tablesIn points corners neighbours) (node .used) (now state) (now list) size
+        × InspectedTo (tablesIn points corners neighbours) (node .used) (node .position) (now state) (now list) size 0 (now faces) (now exposed) ⌝ }
+    ensures { λ _. ⌜ InspectedTo (tablesBefore points corners neighbours) (node .used) (node .position) (now (state .entry)) (now (list .entry)) size size
         (now (faces .exit)) (now (exposed .exit)) ⌝ }
 {
     let mut h: usize = 0;

@@ -14,7 +14,8 @@ use cavity_base::answer_of;
 use cavity_base::join;
 use mesh_tables::four_at;
 
-// What lies across a face joins if it is a cell, is not in yet, and its answer is yes. A cell is asked once: what answers no is noted.
+// What lies across a face joins if it is a cell, is not in yet, and its answer is yes. A cell is asked once: what answers no is noted, by a
+// number that no earlier node has, so that the notes need no clearing.
 fn visit(
     points: &[u32],
     corners: &[u16],
@@ -22,21 +23,21 @@ fn visit(
     answers: &[u8],
     node: Node,
     d: u16,
-    denied: &mut [u8],
+    denied: &mut [u16],
     state: &mut [u8],
     list: &mut [u16],
     g: Gathered,
 ) -> Gathered
     requires { ⌜ Answerable (tablesIn points corners neighbours) (now answers) node
-        × Reached (answersOf (node .handed) (now answers)) (tablesIn points corners neighbours) (node .position) (node .cells) (now state) (now list) g
-        × Neighbour (answersOf (node .handed) (now answers)) (tablesIn points corners neighbours) (node .position) (node .cells) d
-        × Denied (answersOf (node .handed) (now answers)) (tablesIn points corners neighbours) (node .position) (now denied) ⌝ }
+        × Reached (answersOf (node .handed) (now answers)) (tablesIn points corners neighbours) (node .position) (node .used) (now state) (now list) g
+        × Neighbour (answersOf (node .handed) (now answers)) (tablesIn points corners neighbours) (node .position) (node .used) d
+        × Denied (answersOf (node .handed) (now answers)) (tablesIn points corners neighbours) (node .position) (node .points) (now denied) ⌝ }
     ensures { λ r. ⌜ Reached (answersOf (node .handed) (now (answers .entry))) (tablesBefore points corners neighbours)
-        (node .position) (node .cells) (now (state .exit)) (now (list .exit)) r
-        × Grew (node .cells) (now (state .entry)) (now (list .entry)) (g .size) (now (state .exit)) (now (list .exit)) (r .size)
+        (node .position) (node .used) (now (state .exit)) (now (list .exit)) r
+        × Grew (node .used) (now (state .entry)) (now (list .entry)) (g .size) (now (state .exit)) (now (list .exit)) (r .size)
         × InsideIfYes (answersOf (node .handed) (now (answers .entry))) (tablesBefore points corners neighbours)
         (node .position) (now (state .exit)) d
-        × Denied (answersOf (node .handed) (now (answers .entry))) (tablesBefore points corners neighbours) (node .position) (now (denied .exit)) ⌝ }
+        × Denied (answersOf (node .handed) (now (answers .entry))) (tablesBefore points corners neighbours) (node .position) (node .points) (now (denied .exit)) ⌝ }
 {
     if d == 65535 {
         return g;
@@ -45,13 +46,14 @@ fn visit(
     if state[c] != 0 {
         return g;
     }
-    if denied[c] != 0 {
+    let stamp = node.points as u16;
+    if denied[c] == stamp {
         return g;
     }
     let a = answer_of(points, corners, neighbours, answers, node, c);
     let yes = a.yes;
     if !yes {
-        denied[c] = 1;
+        denied[c] = stamp;
         return g;
     }
     join(state, list, g, c, a.t, 1)
@@ -65,21 +67,21 @@ fn visit_all(
     answers: &[u8],
     node: Node,
     u: [u16; 4],
-    denied: &mut [u8],
+    denied: &mut [u16],
     state: &mut [u8],
     list: &mut [u16],
     start: Gathered,
 ) -> Gathered
     requires { ⌜ Answerable (tablesIn points corners neighbours) (now answers) node
-        × Reached (answersOf (node .handed) (now answers)) (tablesIn points corners neighbours) (node .position) (node .cells) (now state) (now list) start
-        × ((j : ℕ) → j < 4 → Neighbour (answersOf (node .handed) (now answers)) (tablesIn points corners neighbours) (node .position) (node .cells) (getD u j 0))
-        × Denied (answersOf (node .handed) (now answers)) (tablesIn points corners neighbours) (node .position) (now denied) ⌝ }
+        × Reached (answersOf (node .handed) (now answers)) (tablesIn points corners neighbours) (node .position) (node .used) (now state) (now list) start
+        × ((j : ℕ) → j < 4 → Neighbour (answersOf (node .handed) (now answers)) (tablesIn points corners neighbours) (node .position) (node .used) (getD u j 0))
+        × Denied (answersOf (node .handed) (now answers)) (tablesIn points corners neighbours) (node .position) (node .points) (now denied) ⌝ }
     ensures { λ r. ⌜ Reached (answersOf (node .handed) (now (answers .entry))) (tablesBefore points corners neighbours)
-        (node .position) (node .cells) (now (state .exit)) (now (list .exit)) r
-        × Grew (node .cells) (now (state .entry)) (now (list .entry)) (start .size) (now (state .exit)) (now (list .exit)) (r .size)
+        (node .position) (node .used) (now (state .exit)) (now (list .exit)) r
+        × Grew (node .used) (now (state .entry)) (now (list .entry)) (start .size) (now (state .exit)) (now (list .exit)) (r .size)
         × ((j : ℕ) → j < 4 → InsideIfYes (answersOf (node .handed) (now (answers .entry))) (tablesBefore points corners neighbours)
         (node .position) (now (state .exit)) (getD u j 0))
-        × Denied (answersOf (node .handed) (now (answers .entry))) (tablesBefore points corners neighbours) (node .position) (now (denied .exit)) ⌝ }
+        × Denied (answersOf (node .handed) (now (answers .entry))) (tablesBefore points corners neighbours) (node .position) (node .points) (now (denied .exit)) ⌝ }
 {
     let mut g = start;
     let mut j: usize = 0;
@@ -108,19 +110,19 @@ pub fn grow(
     neighbours: &[u16],
     answers: &[u8],
     node: Node,
-    denied: &mut [u8],
+    denied: &mut [u16],
     state: &mut [u8],
     list: &mut [u16],
     start: Gathered,
 ) -> Gathered
     requires { ⌜ Answerable (tablesIn points corners neighbours) (now answers) node
-        × Reached (answersOf (node .handed) (now answers)) (tablesIn points corners neighbours) (node .position) (node .cells) (now state) (now list) start
-        × Denied (answersOf (node .handed) (now answers)) (tablesIn points corners neighbours) (node .position) (now denied) ⌝ }
+        × Reached (answersOf (node .handed) (now answers)) (tablesIn points corners neighbours) (node .position) (node .used) (now state) (now list) start
+        × Denied (answersOf (node .handed) (now answers)) (tablesIn points corners neighbours) (node .position) (node .points) (now denied) ⌝ }
     ensures { λ r. ⌜ Reached (answersOf (node .handed) (now (answers .entry))) (tablesBefore points corners neighbours)
-        (node .position) (node .cells) (now (state .exit)) (now (list .exit)) r
-        × (setOf (node .cells) (now (state .exit)) ≡ cavityOf (tablesBefore points corners neighbours) (node .cells) (node .position)
+        (node .position) (node .used) (now (state .exit)) (now (list .exit)) r
+        × (setOf (node .used) (now (state .exit)) ≡ cavityOf (tablesBefore points corners neighbours) (node .used) (node .position)
         (saysYes (answersOf (node .handed) (now (answers .entry))) (tablesBefore points corners neighbours) (node .position)))
-        × Denied (answersOf (node .handed) (now (answers .entry))) (tablesBefore points corners neighbours) (node .position) (now (denied .exit)) ⌝ }
+        × Denied (answersOf (node .handed) (now (answers .entry))) (tablesBefore points corners neighbours) (node .position) (node .points) (now (denied .exit)) ⌝ }
 {
     let mut g = start;
     let mut h: usize = 0;

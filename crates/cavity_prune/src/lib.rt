@@ -77,10 +77,10 @@ pub fn prune(
     state: &mut [u8],
     list: &mut [u16],
 ) -> usize
-    requires { ⌜ SomeMesh (tablesIn points corners neighbours) (node .points) (node .cells)
-        × Correctable (node .cells) (base (tablesIn points corners neighbours) (node .cells) (node .position)) (now state) (now list) size
-        × InspectedTo (tablesIn points corners neighbours) (node .cells) (node .position) (now state) (now list) size (now faces) (now exposed) ⌝ }
-    ensures { λ r. ⌜ Round (tablesBefore points corners neighbours) (node .cells) (node .position) (now (state .entry)) size (now (state .exit)) (now (list .exit)) r ⌝ }
+    requires { ⌜ SomeMesh (tablesIn points corners neighbours) (node .points) (node .used)
+        × Correctable (tablesIn points corners neighbours) (node .used) (base (tablesIn points corners neighbours) (node .used) (node .position)) (now state) (now list) size
+        × InspectedTo (tablesIn points corners neighbours) (node .used) (node .position) (now state) (now list) size size (now faces) (now exposed) ⌝ }
+    ensures { λ r. ⌜ Round (tablesBefore points corners neighbours) (node .used) (node .position) (now (state .entry)) size (now (state .exit)) (now (list .exit)) r ⌝ }
 {
     let mut kept: usize = 0;
     let mut i: usize = 0;

@@ -15,12 +15,14 @@ use Rattle.arith.proofs.Sums.{sum-pos}
 use Rattle.geometry.specs.Volume.{replaced}
 use Rattle.geometry.proofs.Places.{replaced-same, replaced-other}
 use Rattle.geometry.proofs.Algebra.{volume-id, volume-zero}
-use Rattle.mesh.specs.Tables.{Tables, cornerAt, cellVolume}
-use Rattle.mesh.specs.Mesh.{IsMesh}
+use Rattle.mesh.specs.Tables.{Tables, cornerAt, cellVolume, IsCell}
+use Rattle.mesh.specs.Mesh.{CornerOf, IsMesh}
 use Rattle.mesh.proofs.Room.{Room}
+use Rattle.mesh.proofs.Live.{live-of}
 use Rattle.mesh.proofs.Held.{side-at}
+use Rattle.mesh.proofs.FaceNumbers.{face-in}
 use Rattle.covering.specs.Place.{Place, InBoxAt}
-use Rattle.covering.specs.Holders.{Chain, here, step}
+use Rattle.covering.specs.Holders.{FacePath, here, step}
 use Rattle.covering.proofs.Linear.{placed, form, HoldsForm, InsideForm, mix, form-mix, form-whole}
 use Rattle.covering.proofs.Avoid.{Linear, Avoids, avoid}
 use Rattle.covering.proofs.Fields.{blend, form-field}
@@ -48,7 +50,7 @@ module _ (t : Tables) (c : ℕ) where
 -- ---- F2: near a given place, one from which the line to q meets no two planes of a cell at once
 
 pub record Start (t : Tables) (n : ℕ) (q : ℕ → ℤ) (x₀ x : Place) : Type 0 where
-  pub generic : Generic n q (form t x)
+  pub generic : Generic t n q (form t x)
   pub near : (c : ℕ) → c < n → InsideForm t x₀ c → InsideForm t x c
   pub below : (f : ℕ) → f < 4 * n → form t x₀ f <ℤ pos 0 → form t x f <ℤ pos 0
 
@@ -74,9 +76,9 @@ module _ {X Y Z pc cc np n : ℕ} {t : Tables} (M : IsMesh X Y Z pc cc np n t) (
           (x : Place) × Start t n q x₀ x
       go (x, A) = (x, record { generic = gen; near = λ c l i k h. A .keeps (4 * c + k) (omega arith) (i k h); below = A .keeps-below })
         where
-          gen : Generic n q (form t x)
+          gen : Generic t n q (form t x)
           gen c i j l hi hj d z e =
-              A .off κ (omega arith)
+              A .off κ (omega (arith, l .below))
               (λ u. z (cancel-zero {a = cellVolume t c} (q (4 * c + j)) (M .positive c l) (sym (cut-own t c q i j hi hj d) ∙ (sym (at (placed t c i)) ∙ (ap (λ y. plane κ y) (sym tip-is) ∙ u)))))
               (at x ∙ e)
             where
@@ -130,19 +132,19 @@ middle-nonneg t c f all =
     one : pos 0 ≤ℤ pos 1
     one = omega arithℤ
 
-pub chain-map : {t : Tables} {n : ℕ} {P Q : ℕ → ℕ → Type 0} → ((c k : ℕ) → P c k → Q c k) → {c d : ℕ} → Chain t n P c d → Chain t n Q c d
-chain-map f here = here
-chain-map f (step {c} k h x u v) = step k h (f c k x) u (chain-map f v)
+pub path-map : {t : Tables} {n : ℕ} {P Q : ℕ → ℕ → Type 0} → ((c k : ℕ) → P c k → Q c k) → {c d : ℕ} → FacePath t n P c d → FacePath t n Q c d
+path-map f here = here
+path-map f (step {c} k h x u v) = step k h (f c k x) u (path-map f v)
 
 -- where the straight walk from c to q ends
 pub record Reached (t : Tables) (n : ℕ) (q : Place) (c : ℕ) : Type 0 where
   pub cell : ℕ
-  pub cell< : cell < n
-  pub chain : Chain t n (λ c k. form t q (4 * c + k) <ℤ pos 0) c cell
+  pub cell< : IsCell t n cell
+  pub path : FacePath t n (λ c k. form t q (4 * c + k) <ℤ pos 0) c cell
   pub holds : HoldsForm t q cell
 
 module _ {X Y Z pc cc np n : ℕ} {t : Tables} (M : IsMesh X Y Z pc cc np n t) where
-  pub middle-inside : (c : ℕ) → c < n → InsideForm t (middle t c) c
+  pub middle-inside : (c : ℕ) → IsCell t n c → InsideForm t (middle t c) c
   middle-inside c l k h =
       subst (λ z. pos 0 <ℤ z) (sym (middle-side t c (4 * c + k)))
       (four-pos (λ i. form t (placed t c i) (4 * c + k)) (λ i hi. each i hi (ℕ-discrete i k)) k h (full k h))
@@ -155,37 +157,44 @@ module _ {X Y Z pc cc np n : ℕ} {t : Tables} (M : IsMesh X Y Z pc cc np n t) w
       each i hi (no d) = ≡→≤ (sym (form-off t c i k hi h d))
 
   module _ (R : Room pc cc t) where
+    -- an entry with a point of the mesh for a corner is a cell
+    pub used-cell : (v : ℕ) → v < np → (U : CornerOf t n v) → IsCell t n (U .cell)
+    used-cell v h U = record { below = U .cell<; lives = live-of t (U .cell) (U .place) (U .place<) (omega (arith, U .is, M .points≤, R .points≤)) }
+
     -- to a place of the box no walk leaves it
     pub walk-to : (q : Place) → InBoxAt X Y Z q → (Way : (ℕ → ℤ) → Type 0) →
-        ((a : ℤ) (p : ℕ → ℤ) (b : ℤ) → pos 0 <ℤ a → pos 0 ≤ℤ b → Way p → Way (blend a p b (form t q))) → (x : Place) → Way (form t x) → Generic n (form t q) (form t x) →
-        (c₁ c₂ : ℕ) → c₁ < n → c₂ < n → InsideForm t x c₁ → InsideForm t x c₂ → Walks t n (form t q) Way c₁ c₂
+        ((a : ℤ) (p : ℕ → ℤ) (b : ℤ) → pos 0 <ℤ a → pos 0 ≤ℤ b → Way p → Way (blend a p b (form t q))) → (x : Place) → Way (form t x) → Generic t n (form t q) (form t x) →
+        (c₁ c₂ : ℕ) → IsCell t n c₁ → IsCell t n c₂ → InsideForm t x c₁ → InsideForm t x c₂ → Walks t n (form t q) Way c₁ c₂
     walk-to q box Way on x w gen c₁ c₂ l₁ l₂ i₁ i₂ = go (walk-from M R (form t q) (form-field M R q) Way on (form t x) (form-field M R x) w gen c₁ c₂ l₁ l₂ i₁ i₂)
       where
         never : {c : ℕ} → Leaves t n (form t q) c → ⊥
-        never L = <-irrefl (≤-<-trans (wall-inner-form M (4 * L .end + L .wall) (omega (arith, L .end<, L .wall<)) (L .bare) q box) (L .beyond))
+        never L = <-irrefl (≤-<-trans (wall-inner-form M (4 * L .end + L .wall) (face-in (L .end) (L .wall) (L .wall<) (L .end<)) (L .bare) q box) (L .beyond))
 
         go : Walked t n (form t q) Way c₁ c₂ → Walks t n (form t q) Way c₁ c₂
         go (arrived W) = W
         go (first-left L) = absurd (never L)
         go (second-left L) = absurd (never L)
 
-    -- two cells strictly around one place: from each a chain to a cell that holds q, and these differ if the two do
-    pub two-walks : (q : Place) → InBoxAt X Y Z q → (x : Place) (c₁ c₂ : ℕ) → c₁ < n → c₂ < n → InsideForm t x c₁ → InsideForm t x c₂ → Walks t n (form t q) (λ p. Unit {0}) c₁ c₂
+    -- two cells strictly around one place: from each a path to a cell that holds q, and these differ if the two do
+    pub two-walks : (q : Place) → InBoxAt X Y Z q → (x : Place) (c₁ c₂ : ℕ) → IsCell t n c₁ → IsCell t n c₂ → InsideForm t x c₁ → InsideForm t x c₂ → Walks t n (form t q) (λ p. Unit {0}) c₁ c₂
     two-walks q box x₀ c₁ c₂ l₁ l₂ i₁ i₂ = go (start M (form t q) x₀)
       where
         go : (x : Place) × Start t n (form t q) x₀ x → Walks t n (form t q) (λ p. Unit {0}) c₁ c₂
-        go (x, S) = walk-to q box (λ p. Unit {0}) (λ a p b h k w. tt) x tt (S .generic) c₁ c₂ l₁ l₂ (S .near c₁ l₁ i₁) (S .near c₂ l₂ i₂)
+        go (x, S) = walk-to q box (λ p. Unit {0}) (λ a p b h k w. tt) x tt (S .generic) c₁ c₂ l₁ l₂ (S .near c₁ (l₁ .below) i₁) (S .near c₂ (l₂ .below) i₂)
 
     -- F4: THE STRAIGHT WALK
-    pub straight-walk : (q : Place) → InBoxAt X Y Z q → (c : ℕ) → c < n → Reached t n q c
+    pub straight-walk : (q : Place) → InBoxAt X Y Z q → (c : ℕ) → IsCell t n c → Reached t n q c
     straight-walk q box c l = go (two-walks q box (middle t c) c c l l (middle-inside c l) (middle-inside c l))
       where
         go : Walks t n (form t q) (λ p. Unit {0}) c c → Reached t n q c
-        go L = record { cell = L .end₁; cell< = L .end₁<; chain = chain-map (λ c k x. x .separates) (L .chain); holds = L .holds₁ }
+        go L = record { cell = L .end₁; cell< = L .end₁<; path = path-map (λ c k x. x .separates) (L .path); holds = L .holds₁ }
 
     -- NOWHERE UNCOVERED
-    pub held : (q : Place) → InBoxAt X Y Z q → (c : ℕ) × (c < n) × HoldsForm t q c
-    held q box = go (straight-walk q box 0 (omega (arith, M .cells≥)))
+    pub held : (q : Place) → InBoxAt X Y Z q → (c : ℕ) × IsCell t n c × HoldsForm t q c
+    held q box = go (straight-walk q box (some .cell) (used-cell 0 (omega (arith, M .points≥)) some))
       where
-        go : Reached t n q 0 → (c : ℕ) × (c < n) × HoldsForm t q c
+        some : CornerOf t n 0
+        some = M .used 0 (omega (arith, M .points≥))
+
+        go : Reached t n q (some .cell) → (c : ℕ) × IsCell t n c × HoldsForm t q c
         go r = (r .cell, r .cell<, r .holds)

@@ -8,7 +8,7 @@ use lib.Signed.{_<ℤ_, _≤ℤ_}
 use Rattle.arith.specs.Table.{sum}
 use Rattle.arith.proofs.Ring.{Expr, var, con, _⊕_, _⊗_, neg, ring}
 use Rattle.arith.proofs.Combine.{hyp, combine}
-use Rattle.mesh.specs.Tables.{Tables, none, across, cornerAt, cellVolume, side, mate}
+use Rattle.mesh.specs.Tables.{Tables, none, across, cornerAt, cellVolume, side, mate, IsFace}
 use Rattle.mesh.specs.Mesh.{IsMesh}
 use Rattle.mesh.proofs.Room.{Room}
 use Rattle.covering.specs.Place.{Place}
@@ -16,7 +16,7 @@ use Rattle.covering.proofs.Linear.{form, form-between, mate-opposite-fo
 
 pub record Field (t : Tables) (n : ℕ) (σ : ℕ → ℤ) : Type 0 where
   pub between : (c g : ℕ) → sum 4 (λ k. σ (4 * c + k) *ℤ side t (cornerAt t c k) g) ≡ cellVolume t c *ℤ σ g
-  pub mirror : (f : ℕ) → f < 4 * n → across t f ≢ none → σ (mate t f) ≡ negℤ (σ f)
+  pub mirror : (f : ℕ) → IsFace t n f → across t f ≢ none → σ (mate t f) ≡ negℤ (σ f)
 
 abbrev pub HoldsBy : (ℕ → ℤ) → ℕ → Type 0
 HoldsBy σ c = (k : ℕ) → k < 4 → pos 0 ≤ℤ σ (4 * c + k)
@@ -49,7 +49,7 @@ field-blend {t} {n} a σ b τ S T = record { between = mid; mirror = back }
         e : ℕ → Expr
         e k = (var 0 ⊗ var (2 + k) ⊕ var 1 ⊗ var (6 + k)) ⊗ var (10 + k)
 
-    back : (f : ℕ) → f < 4 * n → across t f ≢ none → blend a σ b τ (mate t f) ≡ negℤ (blend a σ b τ f)
+    back : (f : ℕ) → IsFace t n f → across t f ≢ none → blend a σ b τ (mate t f) ≡ negℤ (blend a σ b τ f)
     back f l r =
         ap₂ (λ u v. a *ℤ u +ℤ b *ℤ v) (S .mirror f l r) (T .mirror f l r) ∙
         ring (var 0 ⊗ neg (var 1) ⊕ var 2 ⊗ neg (var 3)) (neg (var 0 ⊗ var 1 ⊕ var 2 ⊗ var 3)) tt (a ∷ σ f ∷ b ∷ τ f ∷ [])

@@ -16,17 +16,18 @@ use Rattle.arith.proofs.Order.{<-irrefl, *-pos}
 use Rattle.arith.proofs.Ring.{var, _⊗_, ring}
 use Rattle.arith.proofs.Sums.{sum-cong, sum-zero, sum-one, sum-times}
 use Rattle.arith.proofs.Tables.{find}
-use Rattle.mesh.specs.Tables.{Tables, point, corner, cornerAt, cellVolume}
+use Rattle.mesh.specs.Tables.{Tables, point, corner, cornerAt, cellVolume, IsCell}
 use Rattle.mesh.specs.Mesh.{CornerOf, IsMesh}
 use Rattle.mesh.proofs.Room.{Room}
 use Rattle.mesh.proofs.Faces.{distinct}
 use Rattle.mesh.proofs.Held.{own-corner, side-at}
 use Rattle.locate.specs.Locate.{holds}
+use Rattle.locate.proofs.Codes.{holder-cell}
 use Rattle.covering.specs.Place.{Place, whole, InBoxAt, holdsAt, sideAt, insideAt}
-use Rattle.covering.specs.Holders.{Chain, Separates, FaceHolds, weighted, weight, SameCorners}
+use Rattle.covering.specs.Holders.{FacePath, Separates, FaceHolds, weighted, weight, SameCorners}
 use Rattle.covering.proofs.Linear.{placed, form, HoldsForm, form-whole}
-use Rattle.covering.proofs.Cover.{chain-map, Reached, straight-walk, form-own, middle, middle-inside, middle-nonneg}
-use Rattle.covering.proofs.Parts.{holds-whole, whole-in-box, side-form, weight-form, separates-form, holds-form, inside-form, inside-w}
+use Rattle.covering.proofs.Cover.{path-map, Reached, straight-walk, used-cell, form-own, middle, middle-inside, middle-nonneg}
+use Rattle.covering.proofs.Parts.{holds-whole, whole-in-box, side-form, weight-form, separates-form, holder-at, holds-form, insider-at, inside-form, inside-w}
 use Rattle.covering.proofs.Shared.{formWeighted, held-inside, around, linked-value, same-value}
 
 -- the weights are the forms, times w²
@@ -62,29 +63,36 @@ module _ (t : Tables) (q : Place) (v c : ℕ) where
 
 module _ {X Y Z pc cc np n : ℕ} {t : Tables} (M : IsMesh X Y Z pc cc np n t) (R : Room pc cc t) where
   -- a cell's own corner is not beyond any of its faces
-  corner-side : (c i k : ℕ) → c < n → i < 4 → k < 4 → pos 0 ≤ℤ form t (placed t c i) (4 * c + k)
+  corner-side : (c i k : ℕ) → IsCell t n c → i < 4 → k < 4 → pos 0 ≤ℤ form t (placed t c i) (4 * c + k)
   unfolding cellVolume
   corner-side c i k l hi hk =
       subst (λ z. pos 0 ≤ℤ z) (sym (form-whole t (cornerAt t c i) (4 * c + k) ∙ side-at t (cornerAt t c i) c k hk))
       (own-corner (cornerAt t c) k i hk hi (M .positive c l))
 
-  -- from any cell a chain through faces that separate it from a place leads to a cell that holds the place
-  pub chain-to-holder : (q : Place) → InBoxAt X Y Z q → (c : ℕ) → c < n → (d : ℕ) × (d < n) × (Chain t n (Separates t q) c d × (holdsAt t q d ≡ true))
-  chain-to-holder q box c l = go (straight-walk M R q box c l)
+  -- from any cell a path through faces that separate it from a place leads to a cell that holds the place
+  pub path-to-holder : (q : Place) → InBoxAt X Y Z q → (c : ℕ) → IsCell t n c → (d : ℕ) × (d < n) × (FacePath t n (Separates t q) c d × (holdsAt t q d ≡ true))
+  path-to-holder q box c l = go (straight-walk M R q box c l)
     where
-      go : Reached t n q c → (d : ℕ) × (d < n) × (Chain t n (Separates t q) c d × (holdsAt t q d ≡ true))
-      go r = (r .cell, r .cell<, (chain-map (λ c k. separates-form t q (box .w≥) (4 * c + k)) (r .chain), holds-form t q (box .w≥) (r .cell) .1 (r .holds)))
+      go : Reached t n q c → (d : ℕ) × (d < n) × (FacePath t n (Separates t q) c d × (holdsAt t q d ≡ true))
+      go r = (r .cell, r .cell< .below, (path-map (λ c k. separates-form t q (box .w≥) (4 * c + k)) (r .path), holds-form t q (box .w≥) (r .cell) (r .cell< .lives) .1 (r .holds)))
 
   -- a place strictly inside a cell is held by no other
   pub inside-held-alone : (q : Place) (c d : ℕ) → c < n → d < n → insideAt t q c ≡ true → holdsAt t q d ≡ true → d ≡ c
   inside-held-alone q c d lc ld i h =
       let w≥ = inside-w t q c i in
-      held-inside M R q d c ld lc (holds-form t q w≥ d .0 h) (inside-form t q w≥ c .0 i)
+      let D : IsCell t n d = holder-at t q ld h in
+      held-inside M R q d c D (insider-at t q lc i) (holds-form t q w≥ d (D .lives) .0 h) (inside-form t q w≥ c .0 i)
 
   module _ (q : Place) (box : InBoxAt X Y Z q) (c d : ℕ) (lc : c < n) (ld : d < n) (hc : holdsAt t q c ≡ true) (hd : holdsAt t q d ≡ true) where
+    C : IsCell t n c
+    C = holder-at t q lc hc
+
+    D : IsCell t n d
+    D = holder-at t q ld hd
+
     -- cells that hold a place are linked through faces that hold it
-    pub holders-linked : Chain t n (FaceHolds t q) c d
-    holders-linked = around M R q box c d lc ld (holds-form t q (box .w≥) c .0 hc) (holds-form t q (box .w≥) d .0 hd)
+    pub holders-linked : FacePath t n (FaceHolds t q) c d
+    holders-linked = around M R q box c d C D (holds-form t q (box .w≥) c (C .lives) .0 hc) (holds-form t q (box .w≥) d (D .lives) .0 hd)
 
     -- every table of numbers on the points is interpolated alike from them
     pub interpolated-alike : (φ : ℕ → ℤ) → weighted t q φ c *ℤ weight t q d ≡ weighted t q φ d *ℤ weight t q c
@@ -93,11 +101,11 @@ module _ {X Y Z pc cc np n : ℕ} {t : Tables} (M : IsMesh X Y Z pc cc np n t) (
         (combine (var 0 ⊗ var 4 ⊗ (var 4 ⊗ var 5 ⊗ var 3)) (var 1 ⊗ var 4 ⊗ (var 4 ⊗ var 5 ⊗ var 2))
         (hyp (var 4 ⊗ var 4 ⊗ var 5) (var 0 ⊗ var 3) (var 1 ⊗ var 2) ∷ []) tt
         (formWeighted t q φ c ∷ formWeighted t q φ d ∷ cellVolume t c ∷ cellVolume t d ∷ (pos (q .w) *ℤ pos (q .w)) ∷ pos (q .w) ∷ [])
-        (linked-value M R q φ (box .w≥) lc holders-linked, tt) ∙
+        (linked-value M R q φ (box .w≥) C holders-linked, tt) ∙
         sym (ap₂ _*ℤ_ (weighted-form t q φ d) (weight-form t q c)))
 
   -- no two cells have the same four corners: the middle of the one would be held by the other
-  pub corners-tell-cells : (c d : ℕ) → c < n → d < n → SameCorners t c d → c ≡ d
+  pub corners-tell-cells : (c d : ℕ) → IsCell t n c → IsCell t n d → SameCorners t c d → c ≡ d
   corners-tell-cells c d lc ld same = sym (held-inside M R (middle t c) d c ld lc held (middle-inside M c lc))
     where
       held : HoldsForm t (middle t c) d
@@ -130,18 +138,24 @@ module _ {X Y Z pc cc np n : ℕ} {t : Tables} (M : IsMesh X Y Z pc cc np n t) (
       at : placed t d (U .place) ≡ q
       at = placed-at t d (U .place) v (U .is)
 
+      D : IsCell t n d
+      D = used-cell M R v lv U
+
+      C : IsCell t n c
+      C = holder-cell t (point t v) lc e
+
       held : HoldsForm t q d
-      held k h = subst (λ r. pos 0 ≤ℤ form t r (4 * d + k)) at (corner-side d (U .place) k (U .cell<) (U .place<) h)
+      held k h = subst (λ r. pos 0 ≤ℤ form t r (4 * d + k)) at (corner-side d (U .place) k D (U .place<) h)
 
       own : formWeighted t q (onlyAt v) d ≡ cellVolume t d
       own =
-          value-one t q v d (U .place) (U .place<) (U .is) (λ k h a b. a (distinct M R d k (U .place) (U .cell<) h (U .place<) (b ∙ sym (U .is)))) ∙
+          value-one t q v d (U .place) (U .place<) (U .is) (λ k h a b. a (distinct M R d k (U .place) D h (U .place<) (b ∙ sym (U .is)))) ∙
           (ap (λ r. form t r (4 * d + U .place)) (sym at) ∙ form-own t d (U .place) (U .place<))
 
       go : ((k : ℕ) × (k < 4) × (corner t c k ≡ v)) ⊎ ((k : ℕ) → k < 4 → corner t c k ≢ v) → (i : ℕ) × (i < 4) × (corner t c i ≡ v)
       go (inl r) = r
       go (inr off) =
           absurd (<-irrefl (subst (λ z. pos 0 <ℤ z)
-          (ap (λ z. z *ℤ cellVolume t c) (sym own) ∙ (same-value M R q box (onlyAt v) d c (U .cell<) lc held (holds-form t q (omega arith) c .0 (holds-whole t (point t v) c ∙ e)) ∙
+          (ap (λ z. z *ℤ cellVolume t c) (sym own) ∙ (same-value M R q box (onlyAt v) d c D C held (holds-form t q (omega arith) c (C .lives) .0 (holds-whole t (point t v) c ∙ e)) ∙
           (ap (λ z. z *ℤ cellVolume t d) (value-none t q v c off) ∙ zero-*ℤ (cellVolume t d))))
-          (*-pos (M .positive d (U .cell<)) (M .positive c lc))))
+          (*-pos (M .positive d D) (M .positive c C))))

@@ -15,7 +15,7 @@ use Rattle.arith.proofs.Sums.{sum-cong}
 use Rattle.arith.proofs.Combine.{hyp, combine}
 use Rattle.geometry.specs.declared.Position.{Position}
 use Rattle.geometry.specs.Volume.{volume6, volume, replaced}
-use Rattle.mesh.specs.Tables.{Tables, none, cellOf, opposite, across, cornerAt, cellVolume, side, mate}
+use Rattle.mesh.specs.Tables.{Tables, none, cellOf, opposite, across, cornerAt, cellVolume, side, mate, IsFace}
 use Rattle.mesh.specs.Mesh.{IsMesh}
 use Rattle.mesh.proofs.Room.{Room}
 use Rattle.mesh.proofs.Faces.{mate-opposite}
@@ -285,7 +285,7 @@ form-between t q c g =
 
 -- M1 for places
 module _ {X Y Z pc cc np n : ℕ} {t : Tables} (M : IsMesh X Y Z pc cc np n t) (R : Room pc cc t) where
-  pub mate-opposite-form : (f : ℕ) → f < 4 * n → across t f ≢ none → (q : Place) → form t q (mate t f) ≡ negℤ (form t q f)
+  pub mate-opposite-form : (f : ℕ) → IsFace t n f → across t f ≢ none → (q : Place) → form t q (mate t f) ≡ negℤ (form t q f)
   mate-opposite-form f f< real q =
       form-of-sides t q (mate t f) ∙
       ((λ i. formOf (λ p. mate-opposite M R f f< real p i) q) ∙

@@ -1,4 +1,4 @@
--- By computation: for seven of the twelve clauses of the mesh check, tables that meet all the others and cover a place twice or not at all. Kk is cell k of
+-- By computation: for seven of the fourteen clauses of the mesh check, tables that meet all the others and cover a place twice or not at all. Kk is cell k of
 -- the started box.
 use Prim.Native.Nat.{ℕ, _+_, _<_}
 use mathlib.Core.Bool.{true, false, cond}
@@ -8,21 +8,22 @@ use mathlib.Core.Path.{_≡_, refl}
 use native.Mathlib.Omega.{arith}
 use lib.Dec.{eqb}
 use lib.ListN.{replicate}
-use Rattle.arith.specs.Table.{anyBelow, allBelow, sum}
+use Rattle.arith.specs.Table.{anyBelow, allBelow, countBelow, sum}
 use Rattle.arith.proofs.Flags.{clash}
 use Rattle.arith.proofs.Tables.{any-intro}
 use Rattle.geometry.specs.Volume.{volume6, volume}
 use Rattle.mesh.specs.declared.Mesh.{Mesh}
-use Rattle.mesh.specs.Tables.{Tables, tables, pointCapacity, cellCapacity, none, pointIn, corner, across, cornerAt, cellVolume, side, faceHas, sameFace}
-use Rattle.mesh.specs.Check.{countsOk, boxOk, usedOk, pointsOk, cellOk, wallOk, someWall, matedOk, faceOk, meshCheck, isMesh}
+use Rattle.mesh.specs.Tables.{Tables, tables, pointCapacity, cellCapacity, none, pointIn, corner, across, cornerAt, cellVolume, side, faceHas, sameFace, freed, live}
+use Rattle.mesh.specs.Chain.{chainOk}
+use Rattle.mesh.specs.Check.{countsOk, boxOk, usedOk, pointsOk, cellOk, wallOk, someWall, matedOk, faceOk, meshCheck, entriesOk, isMesh}
 use Rattle.mesh.specs.Start.{startPoints, startCorners, startNeighbours}
 use Rattle.locate.specs.Locate.{holds}
 use Rattle.covering.specs.Place.{Place, InBoxAt, tablesInParts, holdsAt, sideAt, insideAt}
-use Rattle.covering.specs.Clauses.{no-clause, cellOkBut, matedOkBut, faceOkBut, meshCheckBut, isMeshBut}
+use Rattle.covering.specs.Clauses.{no-clause, cellOkBut, matedOkBut, faceOkBut, meshCheckBut, entriesOkBut, isMeshBut}
 use Rattle.covering.specs.Claim.{Covering, NeededClauses}
 
 pub none-left-out : (m : Mesh) (t : Tables) (w : ℕ) → isMeshBut no-clause m t w ≡ isMesh m t w
-unfolding meshCheckBut faceOkBut matedOkBut cellOkBut meshCheck pointsOk faceOk matedOk cellOk
+unfolding isMeshBut meshCheckBut faceOkBut matedOkBut cellOkBut entriesOkBut isMesh meshCheck pointsOk faceOk matedOk cellOk entriesOk
 none-left-out m t w = refl
 
 -- ---- what contradicts covering
@@ -52,7 +53,7 @@ abbrev in-K0 : Place
 in-K0 = record { x = 3; y = 2; z = 1; w = 2 }
 
 abbrev side-4 : ℕ → ℕ → Mesh
-side-4 points cells = record { x = 4; y = 4; z = 4; points = points; cells = cells }
+side-4 points cells = record { x = 4; y = 4; z = 4; points = points; cells = cells; chain = none; used = cells }
 
 -- the neighbours of cells whose numbers are n higher
 abbrev shifted : ℕ → List ℕ → List ℕ
@@ -103,11 +104,11 @@ mismatched =
 -- ---- each meets all clauses but one
 
 pub needed-clauses : NeededClauses
-unfolding doubled turned pairs folded unshared uncounted mismatched startPoints startCorners startNeighbours pointCapacity cellCapacity countsOk boxOk usedOk wallOk someWall meshCheckBut cellOkBut matedOkBut faceOkBut pointIn corner across cornerAt cellVolume side faceHas sameFace volume volume6 sum allBelow anyBelow holds holdsAt insideAt sideAt tablesInParts
+unfolding doubled turned pairs folded unshared uncounted mismatched startPoints startCorners startNeighbours pointCapacity cellCapacity countsOk boxOk usedOk wallOk someWall isMeshBut meshCheckBut cellOkBut matedOkBut faceOkBut entriesOkBut chainOk countBelow freed live pointIn corner across cornerAt cellVolume side faceHas sameFace volume volume6 sum allBelow anyBelow holds holdsAt insideAt sideAt tablesInParts
 needed-clauses = record {
   -- no cells, in a box whose sides are 0
   capacities-sides-counts = record {
-    mesh = record { x = 0; y = 0; z = 0; points = 0; cells = 0 };
+    mesh = record { x = 0; y = 0; z = 0; points = 0; cells = 0; chain = none; used = 0 };
     tables = tables (replicate 24 0) (replicate 24 0) (replicate 24 0);
     work = 18;
     others = refl;

@@ -20,7 +20,7 @@ use Rattle.mesh.specs.Tables.{Tables, pointCapacity, cellCapacity, point}
 use Rattle.mesh.specs.Check.{legalBox, isMesh}
 use Rattle.mesh.specs.Start.{short}
 use Rattle.mesh.specs.Refusal.{meshRefusal}
-use Rattle.mesh.proofs.Verdict.{passed}
+use Rattle.mesh.proofs.Valid.{passed}
 use Rattle.locate.specs.declared.Located.the-variants.{Refused as NotLocated}
 use Rattle.locate.specs.Locate.{holds, locateRefusal, locateCall}
 use Rattle.cavity.specs.Answers.{Answers, sphere}
@@ -50,10 +50,10 @@ mesh-never m t w fewer =
     (either (not (legalBox (m .x) (m .y) (m .z))) 2 _ (λ e. omega arith) (either (not (isMesh m t w)) 3 0 (λ e. omega arith) (λ e. omega arith)))
 
 module _ (m : Mesh) (t : Tables) (w : ℕ) (M : isMesh m t w ≡ true) where
-  found : (p : Position) → inBox (m .x) (m .y) (m .z) p ≡ true → anyBelow (m .cells) (holds t p) ≡ true
+  found : (p : Position) → inBox (m .x) (m .y) (m .z) p ≡ true → anyBelow (m .used) (holds t p) ≡ true
   found p e =
       let h = some-holds (checked-covering m t w M) p (box-in e) in
-      any-intro (m .cells) (holds t p) (h .0) (h .1) (h .2)
+      any-intro (m .used) (holds t p) (h .0) (h .1) (h .2)
 
   -- tests 4 to 8 of a node
   node-never : (p : Position) (a : Answers) → nodeRefusal m t w p a ≢ unheld
@@ -93,11 +93,11 @@ module _ (m : Mesh) (t : Tables) (w : ℕ) (p : Position) where
 module _ (m : Mesh) (t : Tables) (w : ℕ) (p : Position) where
   insertion-never : (a : Answers) → insertRefusal m t w p a ≢ unheld
   unfolding insertRefusal
-  insertion-never a = go (ℕ-discrete (meshRefusal m t w (fewerBytes a (m .cells))) 0)
+  insertion-never a = go (ℕ-discrete (meshRefusal m t w (fewerBytes a (m .used))) 0)
     where
-      go : Dec (meshRefusal m t w (fewerBytes a (m .cells)) ≡ 0) → insertRefusal m t w p a ≢ unheld
-      go (no d) = rw (ne-eqb (meshRefusal m t w (fewerBytes a (m .cells))) 0 d) (mesh-never m t w (fewerBytes a (m .cells)))
-      go (yes z) = rw z (node-never m t w (passed m t w (fewerBytes a (m .cells)) z) p a)
+      go : Dec (meshRefusal m t w (fewerBytes a (m .used)) ≡ 0) → insertRefusal m t w p a ≢ unheld
+      go (no d) = rw (ne-eqb (meshRefusal m t w (fewerBytes a (m .used))) 0 d) (mesh-never m t w (fewerBytes a (m .used)))
+      go (yes z) = rw z (node-never m t w (passed m t w (fewerBytes a (m .used)) z) p a)
 
   -- a call with the refusal r
   unless-never-seven : (a : Answers) (r : ℕ) → r ≢ unheld → insertUnless r m t p a .answer ≢ Refused unheld
@@ -130,7 +130,7 @@ module _ (m : Mesh) (t : Tables) (w : ℕ) (p : Position) where
         refusal = lookRefusal (insertRefusal m t w p sphere) m marks
 
         never : refusal ≢ unheld
-        never = then-never _ (either (ltb (length marks) (m .cells)) 10 0 (λ e. omega arith) (λ e. omega arith))
+        never = then-never _ (either (ltb (length marks) (m .used)) 10 0 (λ e. omega arith) (λ e. omega arith))
 
         go : (eqb refusal 0 ≡ true) ⊎ (eqb refusal 0 ≡ false) → lookCall m t w p marks .answer ≢ NotLooked unheld
         go (inl e) = rw e (λ q. let z : _≡_ {A = ℕ} 0 1 = cc in omega arith)

@@ -12,15 +12,17 @@ use lib.Signed.{_<ℤ_, _≤ℤ_}
 use Rattle.arith.specs.Table.{sum}
 use Rattle.arith.proofs.Order.{arithℤ, parts-sub, ≡→≤, <-irrefl, <-≤-trans, *-nonneg, *-nonpos-r, *-nonpos-nonpos, cancel-nonneg}
 use Rattle.arith.proofs.Sums.{sum-nonneg, sum-ge-two}
+use Rattle.arith.proofs.Flags.{split}
 use Rattle.arith.proofs.Tables.{find}
 use Rattle.arith.proofs.Determinant.{odd, signed}
 use Rattle.arith.proofs.Ring.{Expr, var, con, _⊖_, _⊗_, ring}
 use Rattle.geometry.specs.declared.Position.{Position}
 use Rattle.geometry.specs.Volume.{volume6, volume, InBox}
 use Rattle.geometry.proofs.Algebra.{volume-cong, volume-order}
-use Rattle.mesh.specs.Tables.{Tables, corner, cornerAt, cellVolume}
+use Rattle.mesh.specs.Tables.{Tables, point, corner, cornerAt, cellVolume, live, IsCell}
 use Rattle.mesh.specs.Mesh.{IsMesh}
 use Rattle.mesh.proofs.Room.{Room}
+use Rattle.mesh.proofs.Live.{freed-corner}
 use Rattle.covering.specs.Place.{Place, whole, InBoxAt}
 use Rattle.covering.proofs.Linear.{form, placed, rowVolume, replacedRow, HoldsForm, InsideForm, row, r₄, env₄, sixₑ, lin, linₑ, between, form-at, volume-at}
 use Rattle.covering.proofs.Walk.{Walks}
@@ -40,7 +42,7 @@ lin-minus a b c d a′ b′ c′ d′ q =
 
 module _ {X Y Z pc cc np n : ℕ} {t : Tables} (M : IsMesh X Y Z pc cc np n t) where
   -- what holds of a cell's corners holds of what the cell holds
-  convex : (c : ℕ) → c < n → (q : Place) → HoldsForm t q c → (a b d e a′ b′ d′ e′ : ℕ) →
+  convex : (c : ℕ) → IsCell t n c → (q : Place) → HoldsForm t q c → (a b d e a′ b′ d′ e′ : ℕ) →
       ((k : ℕ) → k < 4 → nlin a′ b′ d′ e′ (placed t c k) ≤ nlin a b d e (placed t c k)) → nlin a′ b′ d′ e′ q ≤ nlin a b d e q
   convex c c< q held a b d e a′ b′ d′ e′ each = down (nlin a′ b′ d′ e′ q) (nlin a b d e q) over
     where
@@ -320,7 +322,7 @@ module _ {X Y Z pc cc np n : ℕ} {t : Tables} (M : IsMesh X Y Z pc cc np n t) (
   unfolding target
   target-box = record { w≥ = omega arith; box = record { x≤ = omega arith; y≤ = omega arith; z≤ = omega arith } }
 
-  module _ (c : ℕ) (c< : c < n) (held : HoldsForm t (target X Y Z a b d) c) where
+  module _ (c : ℕ) (c< : IsCell t n c) (held : HoldsForm t (target X Y Z a b d) c) where
     s : ℕ → Position
     s = cornerAt t c
 
@@ -387,18 +389,22 @@ module _ {X Y Z pc cc np n : ℕ} {t : Tables} (M : IsMesh X Y Z pc cc np n t) (
   labels-sum-one = labels-one M R
 
   labels-nonneg : (c : ℕ) → c < n → pos 0 ≤ℤ labelsVolume c
-  unfolding labelsVolume
-  labels-nonneg c l = go (full? X Y Z (cornerAt t c))
+  unfolding labelsVolume cornerAt
+  labels-nonneg c l = go (full? X Y Z (cornerAt t c)) (split (live t c))
     where
-      box : (k : ℕ) → k < 4 → InBox X Y Z (cornerAt t c k)
-      box k h = unfold cornerAt in M .inside (corner t c k) (M .corner< c k l h)
+      box : IsCell t n c → (k : ℕ) → k < 4 → InBox X Y Z (cornerAt t c k)
+      box h k hk = M .inside (corner t c k) (M .corner< c k h hk)
 
-      go : Full X Y Z (cornerAt t c) ⊎ Missing X Y Z (cornerAt t c) → pos 0 ≤ℤ volume (λ k. labelOf X Y Z (cornerAt t c k))
-      go (inl F) = subst (λ z. pos 0 ≤ℤ z) (sym (full-one X Y Z (cornerAt t c) box F (unfold cellVolume in M .positive c l))) (omega arithℤ)
-      go (inr L) = ≡→≤ (sym (missing-zero X Y Z (cornerAt t c) L))
+      go : Full X Y Z (cornerAt t c) ⊎ Missing X Y Z (cornerAt t c) → (live t c ≡ true) ⊎ (live t c ≡ false) → pos 0 ≤ℤ volume (λ k. labelOf X Y Z (cornerAt t c k))
+      go (inr L) b = ≡→≤ (sym (missing-zero X Y Z (cornerAt t c) L))
+      go (inl F) (inl a) =
+          let h : IsCell t n c = record { below = l; lives = a } in
+          subst (λ z. pos 0 ≤ℤ z) (sym (full-one X Y Z (cornerAt t c) (box h) F (unfold cellVolume in M .positive c h))) (omega arithℤ)
+      -- a freed entry has four times one corner
+      go (inl F) (inr a) = absurd (F .is₃ (ap (λ v. point t v .z) (freed-corner t c a (F .k₃) (F .k₃<) ∙ sym (freed-corner t c a (F .k₀) (F .k₀<))) ∙ F .is₀ .iz))
 
   -- NOWHERE TWICE
-  pub once : (q : Place) (c₁ c₂ : ℕ) → c₁ < n → c₂ < n → InsideForm t q c₁ → InsideForm t q c₂ → c₁ ≡ c₂
+  pub once : (q : Place) (c₁ c₂ : ℕ) → IsCell t n c₁ → IsCell t n c₂ → InsideForm t q c₁ → InsideForm t q c₂ → c₁ ≡ c₂
   once q c₁ c₂ l₁ l₂ i₁ i₂ = go (two-walks M R (target X Y Z a b Z) (target-box M a b Z refl refl refl) q c₁ c₂ l₁ l₂ i₁ i₂)
     where
       b : ℕ
@@ -410,14 +416,14 @@ module _ {X Y Z pc cc np n : ℕ} {t : Tables} (M : IsMesh X Y Z pc cc np n t) (
       go : Walks t n (form t (target X Y Z a b Z)) (λ p. Unit {0}) c₁ c₂ → c₁ ≡ c₂
       go L = by (ℕ-discrete (L .end₁) (L .end₂))
         where
-          one : (c : ℕ) → c < n → HoldsForm t (target X Y Z a b Z) c → labelsVolume c ≡ pos 1
+          one : (c : ℕ) → IsCell t n c → HoldsForm t (target X Y Z a b Z) c → labelsVolume c ≡ pos 1
           one c l h = unfold labelsVolume in in-target M a b Z refl refl refl c l h
 
           by : Dec (L .end₁ ≡ L .end₂) → c₁ ≡ c₂
           by (yes e) = L .apart e
           by (no d) =
               absurd (two (subst (λ z. z ≤ℤ pos 1) (ap₂ _+ℤ_ (one (L .end₁) (L .end₁<) (L .holds₁)) (one (L .end₂) (L .end₂<) (L .holds₂)))
-              (subst (λ z. (labelsVolume (L .end₁) +ℤ labelsVolume (L .end₂)) ≤ℤ z) labels-sum-one (sum-ge-two n labelsVolume labels-nonneg (L .end₁) (L .end₂) (L .end₁<) (L .end₂<) d))))
+              (subst (λ z. (labelsVolume (L .end₁) +ℤ labelsVolume (L .end₂)) ≤ℤ z) labels-sum-one (sum-ge-two n labelsVolume labels-nonneg (L .end₁) (L .end₂) (L .end₁< .below) (L .end₂< .below) d))))
             where
               two : (pos 1 +ℤ pos 1) ≤ℤ pos 1 → ⊥
               two h = omega arithℤ

@@ -1,21 +1,25 @@
 -- What the definitions in parts of a step are by forms, and at whole steps.
 use Prim.Native.Nat.{ℕ, _+_, _*_, _≤_, _<_}
-use mathlib.Core.Bool.{true}
+use mathlib.Core.Bool.{true, false}
 use mathlib.Core.List.{List, [], _∷_, map}
-use mathlib.Core.Logic.{_↔_}
+use mathlib.Core.Logic.{_⊎_, inl, inr, _↔_}
 use mathlib.Core.Path.{_≡_, refl, sym, ap, ap₂, _∙_, subst}
 use native.Mathlib.Omega.{arith}
 use native.Mathlib.Decide.{ℕ-discrete}
 use lib.IntN.{ℤ, pos, _*ℤ_, *ℤ-zero, zero-*ℤ}
 use lib.ListN.{getD, List·getD-map}
 use lib.Signed.{_≤ℤ_, _<ℤ_, leZ, ltZ}
-use Rattle.arith.proofs.Flags.{below-four}
+use Rattle.arith.specs.Table.{allBelow}
+use Rattle.arith.proofs.Flags.{split, and-left, and-right, and-intro, below-four}
 use Rattle.arith.proofs.Order.{arithℤ, leZ-true, le-leZ, ltZ-true, lt-ltZ, *-nonneg, *-pos, *-neg-r, cancel-nonneg, cancel-pos, cancel-zero, <→≤, <-irrefl}
 use Rattle.arith.proofs.Ring.{var, _⊗_, ring}
 use Rattle.arith.proofs.Tables.{all-at, all-intro}
 use Rattle.geometry.specs.declared.Position.{Position}
 use Rattle.geometry.specs.Volume.{InBox, volume6, volume, replaced}
-use Rattle.mesh.specs.Tables.{Tables, pointIn, cellOf, opposite, corner, cornerAt, cellVolume, side}
+use Rattle.geometry.proofs.Algebra.{volume-zero}
+use Rattle.mesh.specs.Tables.{Tables, pointIn, point, cellOf, opposite, corner, cornerAt, cellVolume, side, live, IsCell}
+use Rattle.mesh.proofs.Live.{live-same, freed-corner}
+use Rattle.mesh.proofs.Held.{side-at}
 use Rattle.mesh.proofs.FaceNumbers.{opposite<}
 use Rattle.locate.specs.Locate.{holds}
 use Rattle.covering.specs.Place.{Place, whole, inParts, InBoxAt, tablesInParts, holdsAt, sideAt, insideAt}
@@ -112,6 +116,15 @@ module _ (t : Tables) where
   unfolding weight cellVolume
   weight-form q c = (λ ι. volume (λ k. corner-scaled (q .w) c k ι)) ∙ volume-scaled (cornerAt t c) q
 
+  live-parts : (w c : ℕ) → live (tablesInParts w t) c ≡ live t c
+  unfolding tablesInParts corner
+  live-parts w c = live-same (tablesInParts w t) t c c (λ i h. refl)
+
+  -- what holds a place is a cell
+  pub holder-at : (q : Place) {n c : ℕ} → c < n → holdsAt t q c ≡ true → IsCell t n c
+  unfolding holdsAt holds sideAt
+  holder-at q {n} {c} l e = record { below = l; lives = sym (live-parts (q .w) c) ∙ and-left (live (tablesInParts (q .w) t) c) (allBelow 4 (λ k. leZ (pos 0) (sideAt t q (4 * c + k)))) e }
+
   module _ (q : Place) (w≥ : 1 ≤ q .w) where
     square : pos 0 <ℤ (pos (q .w) *ℤ pos (q .w))
     square = *-pos {a = pos (q .w)} {b = pos (q .w)} (omega arithℤ) (omega arithℤ)
@@ -126,13 +139,17 @@ module _ (t : Tables) where
     )
 
     module _ (c : ℕ) where
-      pub holds-form : (holdsAt t q c ≡ true) ↔ HoldsForm t q c
+      pub holds-form : live t c ≡ true → (holdsAt t q c ≡ true) ↔ HoldsForm t q c
       unfolding holdsAt holds sideAt
-      holds-form = (
+      holds-form a = (
         (λ e k h.
             cancel-nonneg (form t q (4 * c + k)) square
-            (subst (λ z. pos 0 ≤ℤ z) (side-form q (4 * c + k)) (leZ-true (pos 0) (sideAt t q (4 * c + k)) (all-at 4 (λ k. leZ (pos 0) (sideAt t q (4 * c + k))) e k h)))),
-        (λ H. all-intro 4 (λ k. leZ (pos 0) (sideAt t q (4 * c + k))) (λ k h. le-leZ (subst (λ z. pos 0 ≤ℤ z) (sym (side-form q (4 * c + k))) (*-nonneg (<→≤ square) (H k h))))),
+            (subst (λ z. pos 0 ≤ℤ z) (side-form q (4 * c + k))
+            (leZ-true (pos 0) (sideAt t q (4 * c + k))
+            (all-at 4 (λ k. leZ (pos 0) (sideAt t q (4 * c + k))) (and-right (live (tablesInParts (q .w) t) c) (allBelow 4 (λ k. leZ (pos 0) (sideAt t q (4 * c + k)))) e) k h)))),
+        (λ H.
+            and-intro (live-parts (q .w) c ∙ a)
+            (all-intro 4 (λ k. leZ (pos 0) (sideAt t q (4 * c + k))) (λ k h. le-leZ (subst (λ z. pos 0 ≤ℤ z) (sym (side-form q (4 * c + k))) (*-nonneg (<→≤ square) (H k h)))))),
       )
 
       pub inside-form : (insideAt t q c ≡ true) ↔ InsideForm t q c
@@ -144,15 +161,34 @@ module _ (t : Tables) where
         (λ H. all-intro 4 (λ k. ltZ (pos 0) (sideAt t q (4 * c + k))) (λ k h. lt-ltZ (subst (λ z. pos 0 <ℤ z) (sym (side-form q (4 * c + k))) (*-pos square (H k h))))),
       )
 
+  -- strictly on its side of face 0
+  inside-first : (q : Place) (c : ℕ) → insideAt t q c ≡ true → pos 0 <ℤ sideAt t q (4 * c + 0)
+  unfolding insideAt holds sideAt
+  inside-first q c e = ltZ-true (pos 0) (sideAt t q (4 * c + 0)) (all-at 4 (λ k. ltZ (pos 0) (sideAt t q (4 * c + k))) e 0 (omega arith))
+
+  -- an entry with a place strictly inside is a cell: a freed one has three times one point on each face
+  pub insider-at : (q : Place) {n c : ℕ} → c < n → insideAt t q c ≡ true → IsCell t n c
+  insider-at q {n} {c} l e = record { below = l; lives = sym (live-parts (q .w) c) ∙ go (split (live t₁ c)) }
+    where
+      t₁ : Tables
+      t₁ = tablesInParts (q .w) t
+
+      flat : live t₁ c ≡ false → sideAt t q (4 * c + 0) ≡ pos 0
+      flat a =
+          unfold sideAt cornerAt in side-at t₁ (inParts q) c 0 (omega arith) ∙
+          volume-zero (replaced (cornerAt t₁ c) 0 (inParts q)) 1 2 (omega arith) (omega arith) (omega arith)
+          (ap (point t₁) (freed-corner t₁ c a 1 (omega arith) ∙ sym (freed-corner t₁ c a 2 (omega arith))))
+
+      go : (live t₁ c ≡ true) ⊎ (live t₁ c ≡ false) → live t₁ c ≡ true
+      go (inl a) = a
+      go (inr a) = absurd (<-irrefl (subst (λ z. pos 0 <ℤ z) (flat a) (inside-first q c e)))
+
   -- a place strictly inside a cell has a w above 0
   pub inside-w : (q : Place) (c : ℕ) → insideAt t q c ≡ true → 1 ≤ q .w
-  unfolding insideAt holds sideAt
   inside-w q c e = go (ℕ-discrete (q .w) 0)
     where
       above : pos 0 <ℤ ((pos (q .w) *ℤ pos (q .w)) *ℤ form t q (4 * c + 0))
-      above =
-          subst (λ z. pos 0 <ℤ z) (side-form q (4 * c + 0))
-          (ltZ-true (pos 0) (sideAt t q (4 * c + 0)) (all-at 4 (λ k. ltZ (pos 0) (sideAt t q (4 * c + k))) e 0 (omega arith)))
+      above = subst (λ z. pos 0 <ℤ z) (side-form q (4 * c + 0)) (inside-first q c e)
 
       go : Dec (q .w ≡ 0) → 1 ≤ q .w
       go (yes z) = absurd (<-irrefl (subst (λ u. pos 0 <ℤ u) (ap (λ w. (pos w *ℤ pos w) *ℤ form t q (4 * c + 0)) z ∙ zero-*ℤ (form t q (4 * c + 0))) above))

@@ -18,13 +18,13 @@ use Rattle.arith.proofs.Sums.{sum-pos}
 use Rattle.arith.proofs.Ring.{var, con, _⊕_, _⊖_, _⊗_, neg, ring}
 use Rattle.geometry.specs.Volume.{volume, replaced}
 use Rattle.geometry.proofs.Algebra.{volume-id}
-use Rattle.mesh.specs.Tables.{Tables, none, cellOf, opposite, corner, across, point, cornerAt, cellVolume, side, mate}
+use Rattle.mesh.specs.Tables.{Tables, none, cellOf, opposite, corner, across, point, cornerAt, cellVolume, side, mate, IsCell, IsFace}
 use Rattle.mesh.specs.Mesh.{OnFace, IsMesh}
 use Rattle.mesh.proofs.Room.{Room}
-use Rattle.mesh.proofs.Faces.{mated, mate-mate, same-back}
+use Rattle.mesh.proofs.Faces.{mated, mate-mate, across-cell, same-back}
 use Rattle.mesh.proofs.Held.{own-corner, side-at}
-use Rattle.mesh.proofs.FaceNumbers.{opposite<, face-cell, face-opposite, face-eq}
-use Rattle.covering.specs.Holders.{Chain, here, step}
+use Rattle.mesh.proofs.FaceNumbers.{opposite<, face-in, face-cell, face-opposite, face-eq}
+use Rattle.covering.specs.Holders.{FacePath, here, step}
 use Rattle.covering.proofs.Avoid.{overAll, over-each, outweighs, at-zero, First, first}
 use Rattle.covering.proofs.Fields.{Field, HoldsBy, InsideBy, blend, field-blend}
 
@@ -43,8 +43,8 @@ cut-line q c i j a p b =
 cut-back : (q : ℕ → ℤ) (c i j : ℕ) (a : ℤ) (p : ℕ → ℤ) (b : ℤ) → pos 0 <ℤ a → cut q c i j (blend a p b q) ≡ pos 0 → cut q c i j p ≡ pos 0
 cut-back q c i j a p b h e = cancel-zero {a = a} (cut q c i j p) h (sym (cut-line q c i j a p b) ∙ e)
 
-abbrev pub Generic : ℕ → (ℕ → ℤ) → (ℕ → ℤ) → Type 0
-Generic n q x = (c i j : ℕ) → c < n → i < 4 → j < 4 → i ≢ j → q (4 * c + j) ≢ pos 0 → cut q c i j x ≢ pos 0
+abbrev pub Generic : Tables → ℕ → (ℕ → ℤ) → (ℕ → ℤ) → Type 0
+Generic t n q x = (c i j : ℕ) → IsCell t n c → i < 4 → j < 4 → i ≢ j → q (4 * c + j) ≢ pos 0 → cut q c i j x ≢ pos 0
 
 -- ---- how far the walk has to go: the planes between p and q, faces by faces
 
@@ -70,8 +70,8 @@ pub record Crosses (q : ℕ → ℤ) (Way : (ℕ → ℤ) → Type 0) (c k : ℕ
 -- a walk to q leaves the box: it comes to a wall face that separates
 pub record Leaves (t : Tables) (n : ℕ) (q : ℕ → ℤ) (c : ℕ) : Type 0 where
   pub end : ℕ
-  pub end< : end < n
-  pub chain : Chain t n (λ c k. q (4 * c + k) <ℤ pos 0) c end
+  pub end< : IsCell t n end
+  pub path : FacePath t n (λ c k. q (4 * c + k) <ℤ pos 0) c end
   pub wall : ℕ
   pub wall< : wall < 4
   pub bare : across t (4 * end + wall) ≡ none
@@ -80,7 +80,7 @@ pub record Leaves (t : Tables) (n : ℕ) (q : ℕ → ℤ) (c : ℕ) : Type 0 wh
 -- ---- F3: on to just behind the first plane
 
 module _ {X Y Z pc cc np n : ℕ} {t : Tables} (M : IsMesh X Y Z pc cc np n t) (R : Room pc cc t)
-    (q : ℕ → ℤ) (Fq : Field t n q) (p : ℕ → ℤ) (Fp : Field t n p) (gen : Generic n q p) (F : First (4 * n) p q) where
+    (q : ℕ → ℤ) (Fq : Field t n q) (p : ℕ → ℤ) (Fp : Field t n p) (gen : Generic t n q p) (F : First (4 * n) p q) where
   -- on the first plane
   abbrev y : ℕ → ℤ
   y = blend (negℤ (q (F .at))) p (p (F .at)) q
@@ -126,7 +126,7 @@ module _ {X Y Z pc cc np n : ℕ} {t : Tables} (M : IsMesh X Y Z pc cc np n t) (
   next-zero f e = at-zero N (y f) (q f) e
 
   -- no two faces of a cell are met there
-  y-alone : (c i j : ℕ) → c < n → i < 4 → j < 4 → i ≢ j → q (4 * c + j) ≢ pos 0 → y (4 * c + i) ≡ pos 0 → y (4 * c + j) ≢ pos 0
+  y-alone : (c i j : ℕ) → IsCell t n c → i < 4 → j < 4 → i ≢ j → q (4 * c + j) ≢ pos 0 → y (4 * c + i) ≡ pos 0 → y (4 * c + j) ≢ pos 0
   y-alone c i j h hi hj d z ei ej = gen c i j h hi hj d z (cut-back q c i j (negℤ (q (F .at))) p (p (F .at)) (neg-pos (F .back)) zero)
     where
       zero : cut q c i j y ≡ pos 0
@@ -165,7 +165,7 @@ module _ {X Y Z pc cc np n : ℕ} {t : Tables} (M : IsMesh X Y Z pc cc np n t) (
       there : between? q p (F .at) ≡ true
       there = and-intro (lt-ltZ (F .front)) (lt-ltZ (F .back))
 
-  next-generic : Generic n q next
+  next-generic : Generic t n q next
   next-generic c i j h hi hj d z e =
       gen c i j h hi hj d z
       (cut-back q c i j (negℤ (q (F .at))) p (p (F .at)) (neg-pos (F .back)) (cut-back q c i j (pos N) y (pos 1) N-pos e))
@@ -180,9 +180,12 @@ module _ {X Y Z pc cc np n : ℕ} {t : Tables} (M : IsMesh X Y Z pc cc np n t) (
     moves : (k : ℕ) → k < 4 → q (4 * c + k) <ℤ pos 0 → y (4 * c + k) ≡ pos 0 →
         across t (4 * c + k) ≢ none → InsideBy next (across t (4 * c + k)) → Passed c
 
-  module _ (c : ℕ) (c< : c < n) (in-c : InsideBy p c) where
+  module _ (c : ℕ) (c< : IsCell t n c) (in-c : InsideBy p c) where
+    face : (k : ℕ) → k < 4 → IsFace t n (4 * c + k)
+    face k h = face-in c k h c<
+
     face< : (k : ℕ) → k < 4 → 4 * c + k < 4 * n
-    face< k h = omega arith
+    face< k h = omega (arith, c< .below)
 
     each : (k : ℕ) → k < 4 → (y (4 * c + k) ≡ pos 0) ⊎ (pos 0 <ℤ y (4 * c + k))
     each k h = go (trichotomy (pos 0) (y (4 * c + k)))
@@ -208,18 +211,18 @@ module _ {X Y Z pc cc np n : ℕ} {t : Tables} (M : IsMesh X Y Z pc cc np n t) (
 
       module _ (real : across t f ≢ none) where
         far-cell : cellOf (mate t f) ≡ across t f
-        far-cell = mated M R f (face< k k<) real .far-cell
+        far-cell = mated M R f (face k k<) real .far-cell
 
-        u< : across t f < n
-        u< = M .across< f (face< k k<) real
+        u< : IsCell t n (across t f)
+        u< = across-cell M R f (face k k<) real
 
-        above : (d : ℕ) → d < n → pos 0 <ℤ volume (cornerAt t d)
+        above : (d : ℕ) → IsCell t n d → pos 0 <ℤ volume (cornerAt t d)
         above d h = unfold cellVolume in M .positive d h
 
         -- the far side of the face itself
         own : pos 0 <ℤ next (mate t f)
         own =
-            subst (λ z. pos 0 <ℤ z) (sym (next-zero (mate t f) (y-field .mirror f (face< k k<) real ∙ ap negℤ zero-k) ∙ Fq .mirror f (face< k k<) real))
+            subst (λ z. pos 0 <ℤ z) (sym (next-zero (mate t f) (y-field .mirror f (face k k<) real ∙ ap negℤ zero-k) ∙ Fq .mirror f (face k k<) real))
             (neg-pos back)
 
         -- the other faces of the far cell: only corners of the shared face have weight
@@ -231,7 +234,7 @@ module _ {X Y Z pc cc np n : ℕ} {t : Tables} (M : IsMesh X Y Z pc cc np n t) (
             (*-pos (others j hj j≢) (subst (λ z. pos 0 <ℤ z) (sym whole-volume) (M .positive (across t f) u<)))))
           where
             o : OnFace t f (corner t (cellOf (mate t f)) l)
-            o = same-back M R f (face< k k<) real l hl d
+            o = same-back M R f (face k k<) real l hl d
 
             j : ℕ
             j = o .place
@@ -261,7 +264,7 @@ module _ {X Y Z pc cc np n : ℕ} {t : Tables} (M : IsMesh X Y Z pc cc np n t) (
                 (own-corner (cornerAt t (across t f)) l (s .place) hl (s .place<) (above (across t f) u<))))
               where
                 s : OnFace t (mate t f) (corner t (cellOf f) i)
-                s = mated M R f (face< k k<) real .same i hi (λ x. e (x ∙ face-opposite c k k<))
+                s = mated M R f (face k k<) real .same i hi (λ x. e (x ∙ face-opposite c k k<))
 
                 i-position : cornerAt t c i ≡ cornerAt t (across t f) (s .place)
                 i-position =
@@ -273,7 +276,7 @@ module _ {X Y Z pc cc np n : ℕ} {t : Tables} (M : IsMesh X Y Z pc cc np n t) (
             go : Dec (l ≡ opposite (mate t f)) → pos 0 <ℤ next (4 * across t f + l)
             go (yes e) =
                 subst (λ x. pos 0 <ℤ next x) (sym (face-eq (mate t f)) ∙ ap₂ (λ x z. 4 * x + z) far-cell (sym e)) own
-            go (no d) = next-pos (4 * across t f + l) (omega (arith, u<)) (other l hl d)
+            go (no d) = next-pos (4 * across t f + l) (omega (arith, u< .below)) (other l hl d)
 
     pub pass : Passed c ⊎ Leaves t n q c
     pass = go (find 4 (λ k. y (4 * c + k) ≡ pos 0) (λ k. pos 0 <ℤ y (4 * c + k)) each)
@@ -282,7 +285,7 @@ module _ {X Y Z pc cc np n : ℕ} {t : Tables} (M : IsMesh X Y Z pc cc np n t) (
         go (inl (k, h, e)) = by (ℕ-discrete (across t (4 * c + k)) none)
           where
             by : Dec (across t (4 * c + k) ≡ none) → Passed c ⊎ Leaves t n q c
-            by (yes b) = inr record { end = c; end< = c<; chain = here; wall = k; wall< = h; bare = b; beyond = back k h e }
+            by (yes b) = inr record { end = c; end< = c<; path = here; wall = k; wall< = h; bare = b; beyond = back k h e }
             by (no r) = inl (moves k h (back k h e) e r (moved k h e r))
         go (inr all) = inl (stays (λ k h. next-pos (4 * c + k) (face< k h) (all k h)))
 
@@ -292,25 +295,25 @@ module _ {X Y Z pc cc np n : ℕ} {t : Tables} (M : IsMesh X Y Z pc cc np n t) (
   onto {c} (stays i) = c
   onto {c} (moves k h b z r i) = across t (4 * c + k)
 
-  onto< : {c : ℕ} (P : Passed c) → c < n → onto P < n
+  onto< : {c : ℕ} (P : Passed c) → IsCell t n c → IsCell t n (onto P)
   onto< (stays i) l = l
-  onto< {c} (moves k h b z r i) l = M .across< (4 * c + k) (omega arith) r
+  onto< {c} (moves k h b z r i) l = across-cell M R (4 * c + k) (face-in c k h l) r
 
   onto-inside : {c : ℕ} (P : Passed c) → InsideBy next (onto P)
   onto-inside (stays i) = i
   onto-inside (moves k h b z r i) = i
 
-  onto-chain : (Way : (ℕ → ℤ) → Type 0) → Way p → {c d : ℕ} (P : Passed c) → c < n → InsideBy p c → Chain t n (Crosses q Way) (onto P) d → Chain t n (Crosses q Way) c d
-  onto-chain Way y (stays i) l j w = w
-  onto-chain Way y {c} (moves k h b z r i) l j w =
-      step k h record { from = record { place = p; way = y; inside = j }; separates = b } (M .across< (4 * c + k) (omega arith) r) w
+  onto-path : (Way : (ℕ → ℤ) → Type 0) → Way p → {c d : ℕ} (P : Passed c) → IsCell t n c → InsideBy p c → FacePath t n (Crosses q Way) (onto P) d → FacePath t n (Crosses q Way) c d
+  onto-path Way y (stays i) l j w = w
+  onto-path Way y {c} (moves k h b z r i) l j w =
+      step k h record { from = record { place = p; way = y; inside = j }; separates = b } (M .across< (4 * c + k) (face-in c k h l) r) w
 
-  onto-leaves : {c : ℕ} (P : Passed c) → c < n → Leaves t n q (onto P) → Leaves t n q c
+  onto-leaves : {c : ℕ} (P : Passed c) → IsCell t n c → Leaves t n q (onto P) → Leaves t n q c
   onto-leaves (stays i) l L = L
   onto-leaves {c} (moves k h b z r i) l L = record {
     end = L .end;
     end< = L .end<;
-    chain = step k h b (M .across< (4 * c + k) (omega arith) r) (L .chain);
+    path = step k h b (M .across< (4 * c + k) (face-in c k h l) r) (L .path);
     wall = L .wall;
     wall< = L .wall<;
     bare = L .bare;
@@ -318,17 +321,17 @@ module _ {X Y Z pc cc np n : ℕ} {t : Tables} (M : IsMesh X Y Z pc cc np n t) (
   }
 
   -- a face that a walk leaves by lies before the cell beyond
-  not-before : (f c : ℕ) → f < 4 * n → across t f ≢ none → pos 0 <ℤ p f → across t f ≡ c → InsideBy p c → ⊥
+  not-before : (f c : ℕ) → IsFace t n f → across t f ≢ none → pos 0 <ℤ p f → across t f ≡ c → InsideBy p c → ⊥
   not-before f c f< real ahead e i =
       <-irrefl (≤-<-trans
       (<→≤ (subst (λ x. pos 0 <ℤ p x) (ap (λ x. 4 * x + opposite (mate t f)) (sym (mated M R f f< real .far-cell ∙ e)) ∙ face-eq (mate t f)) (i (opposite (mate t f)) (opposite< (mate t f)))))
       (subst (λ z. z <ℤ pos 0) (sym (Fp .mirror f f< real)) (neg-mono-< ahead)))
 
   -- two walks never meet
-  onto-apart : {c₁ c₂ : ℕ} (P₁ : Passed c₁) (P₂ : Passed c₂) → c₁ < n → c₂ < n → InsideBy p c₁ → InsideBy p c₂ → onto P₁ ≡ onto P₂ → c₁ ≡ c₂
+  onto-apart : {c₁ c₂ : ℕ} (P₁ : Passed c₁) (P₂ : Passed c₂) → IsCell t n c₁ → IsCell t n c₂ → InsideBy p c₁ → InsideBy p c₂ → onto P₁ ≡ onto P₂ → c₁ ≡ c₂
   onto-apart (stays i₁) (stays i₂) l₁ l₂ j₁ j₂ e = e
-  onto-apart {c₁} {c₂} (moves k h b z r i) (stays i₂) l₁ l₂ j₁ j₂ e = absurd (not-before (4 * c₁ + k) c₂ (omega arith) r (j₁ k h) e j₂)
-  onto-apart {c₁} {c₂} (stays i₁) (moves k h b z r i) l₁ l₂ j₁ j₂ e = absurd (not-before (4 * c₂ + k) c₁ (omega arith) r (j₂ k h) (sym e) j₁)
+  onto-apart {c₁} {c₂} (moves k h b z r i) (stays i₂) l₁ l₂ j₁ j₂ e = absurd (not-before (4 * c₁ + k) c₂ (face-in c₁ k h l₁) r (j₁ k h) e j₂)
+  onto-apart {c₁} {c₂} (stays i₁) (moves k h b z r i) l₁ l₂ j₁ j₂ e = absurd (not-before (4 * c₂ + k) c₁ (face-in c₂ k h l₂) r (j₂ k h) (sym e) j₁)
   onto-apart {c₁} {c₂} (moves k₁ h₁ b₁ z₁ r₁ i₁) (moves k₂ h₂ b₂ z₂ r₂ i₂) l₁ l₂ j₁ j₂ e = go (ℕ-discrete (opposite (mate t f₁)) (opposite (mate t f₂)))
     where
       f₁ : ℕ
@@ -337,36 +340,42 @@ module _ {X Y Z pc cc np n : ℕ} {t : Tables} (M : IsMesh X Y Z pc cc np n t) (
       f₂ : ℕ
       f₂ = 4 * c₂ + k₂
 
+      f₁< : IsFace t n f₁
+      f₁< = face-in c₁ k₁ h₁ l₁
+
+      f₂< : IsFace t n f₂
+      f₂< = face-in c₂ k₂ h₂ l₂
+
       u : ℕ
       u = across t f₁
 
       g₁ : 4 * u + opposite (mate t f₁) ≡ mate t f₁
-      g₁ = ap (λ x. 4 * x + opposite (mate t f₁)) (sym (mated M R f₁ (omega arith) r₁ .far-cell)) ∙ face-eq (mate t f₁)
+      g₁ = ap (λ x. 4 * x + opposite (mate t f₁)) (sym (mated M R f₁ f₁< r₁ .far-cell)) ∙ face-eq (mate t f₁)
 
       g₂ : 4 * u + opposite (mate t f₂) ≡ mate t f₂
-      g₂ = ap (λ x. 4 * x + opposite (mate t f₂)) (e ∙ sym (mated M R f₂ (omega arith) r₂ .far-cell)) ∙ face-eq (mate t f₂)
+      g₂ = ap (λ x. 4 * x + opposite (mate t f₂)) (e ∙ sym (mated M R f₂ f₂< r₂ .far-cell)) ∙ face-eq (mate t f₂)
 
-      met : (f : ℕ) → f < 4 * n → across t f ≢ none → y f ≡ pos 0 → y (mate t f) ≡ pos 0
+      met : (f : ℕ) → IsFace t n f → across t f ≢ none → y f ≡ pos 0 → y (mate t f) ≡ pos 0
       met f l r z = y-field .mirror f l r ∙ ap negℤ z
 
       go : Dec (opposite (mate t f₁) ≡ opposite (mate t f₂)) → c₁ ≡ c₂
       go (yes s) =
-          let same : f₁ ≡ f₂ = sym (mate-mate M R f₁ (omega arith) r₁) ∙ (ap (mate t) (sym g₁ ∙ (ap (λ x. 4 * u + x) s ∙ g₂)) ∙ mate-mate M R f₂ (omega arith) r₂) in
+          let same : f₁ ≡ f₂ = sym (mate-mate M R f₁ f₁< r₁) ∙ (ap (mate t) (sym g₁ ∙ (ap (λ x. 4 * u + x) s ∙ g₂)) ∙ mate-mate M R f₂ f₂< r₂) in
           omega arith
       go (no d) =
-          absurd (y-alone u (opposite (mate t f₁)) (opposite (mate t f₂)) (M .across< f₁ (omega arith) r₁) (opposite< (mate t f₁)) (opposite< (mate t f₂)) d
-          (λ x. <-irrefl (subst (λ v. v <ℤ pos 0) (sym (negℤ-negℤ (q f₂)) ∙ ap negℤ (sym (Fq .mirror f₂ (omega arith) r₂) ∙ (ap q (sym g₂) ∙ x))) b₂))
-          (ap y g₁ ∙ met f₁ (omega arith) r₁ z₁) (ap y g₂ ∙ met f₂ (omega arith) r₂ z₂))
+          absurd (y-alone u (opposite (mate t f₁)) (opposite (mate t f₂)) (across-cell M R f₁ f₁< r₁) (opposite< (mate t f₁)) (opposite< (mate t f₂)) d
+          (λ x. <-irrefl (subst (λ v. v <ℤ pos 0) (sym (negℤ-negℤ (q f₂)) ∙ ap negℤ (sym (Fq .mirror f₂ f₂< r₂) ∙ (ap q (sym g₂) ∙ x))) b₂))
+          (ap y g₁ ∙ met f₁ f₁< r₁ z₁) (ap y g₂ ∙ met f₂ f₂< r₂ z₂))
 
 -- ---- the walk
 
--- walks from c₁ and c₂ to q: they end in cells that hold q, and in one cell only if they began in one; `chain` is the first
+-- walks from c₁ and c₂ to q: they end in cells that hold q, and in one cell only if they began in one; `path` is the first
 pub record Walks (t : Tables) (n : ℕ) (q : ℕ → ℤ) (Way : (ℕ → ℤ) → Type 0) (c₁ c₂ : ℕ) : Type 0 where
   pub end₁ : ℕ
   pub end₂ : ℕ
-  pub end₁< : end₁ < n
-  pub end₂< : end₂ < n
-  pub chain : Chain t n (Crosses q Way) c₁ end₁
+  pub end₁< : IsCell t n end₁
+  pub end₂< : IsCell t n end₂
+  pub path : FacePath t n (Crosses q Way) c₁ end₁
   pub last : Visited Way end₁
   pub holds₁ : HoldsBy q end₁
   pub holds₂ : HoldsBy q end₂
@@ -381,28 +390,28 @@ pub data Walked (t : Tables) (n : ℕ) (q : ℕ → ℤ) (Way : (ℕ → ℤ) �
 module _ {X Y Z pc cc np n : ℕ} {t : Tables} (M : IsMesh X Y Z pc cc np n t) (R : Room pc cc t) (q : ℕ → ℤ) (Fq : Field t n q)
     (Way : (ℕ → ℤ) → Type 0) (on : (a : ℤ) (p : ℕ → ℤ) (b : ℤ) → pos 0 <ℤ a → pos 0 ≤ℤ b → Way p → Way (blend a p b q)) where
   -- nothing between p and q
-  at-rest : (p : ℕ → ℤ) → Way p → (c₁ c₂ : ℕ) → c₁ < n → c₂ < n → InsideBy p c₁ → InsideBy p c₂ →
+  at-rest : (p : ℕ → ℤ) → Way p → (c₁ c₂ : ℕ) → IsCell t n c₁ → IsCell t n c₂ → InsideBy p c₁ → InsideBy p c₂ →
       ((f : ℕ) → f < 4 * n → (p f ≤ℤ pos 0) ⊎ (pos 0 ≤ℤ q f)) → Walks t n q Way c₁ c₂
   at-rest p y c₁ c₂ l₁ l₂ i₁ i₂ free = record {
     end₁ = c₁;
     end₂ = c₂;
     end₁< = l₁;
     end₂< = l₂;
-    chain = here;
+    path = here;
     last = record { place = p; way = y; inside = i₁ };
     holds₁ = held c₁ l₁ i₁;
     holds₂ = held c₂ l₂ i₂;
     apart = λ e. e;
   }
     where
-      held : (c : ℕ) → c < n → InsideBy p c → HoldsBy q c
-      held c l i k h = by (free (4 * c + k) (omega arith))
+      held : (c : ℕ) → IsCell t n c → InsideBy p c → HoldsBy q c
+      held c l i k h = by (free (4 * c + k) (omega (arith, l .below)))
         where
           by : (p (4 * c + k) ≤ℤ pos 0) ⊎ (pos 0 ≤ℤ q (4 * c + k)) → pos 0 ≤ℤ q (4 * c + k)
           by (inl a) = absurd (<-irrefl (≤-<-trans a (i k h)))
           by (inr a) = a
 
-  onward : (p : ℕ → ℤ) (Fp : Field t n p) (gen : Generic n q p) (F : First (4 * n) p q) → Way p → (c₁ c₂ : ℕ) (l₁ : c₁ < n) (l₂ : c₂ < n) (i₁ : InsideBy p c₁) (i₂ : InsideBy p c₂)
+  onward : (p : ℕ → ℤ) (Fp : Field t n p) (gen : Generic t n q p) (F : First (4 * n) p q) → Way p → (c₁ c₂ : ℕ) (l₁ : IsCell t n c₁) (l₂ : IsCell t n c₂) (i₁ : InsideBy p c₁) (i₂ : InsideBy p c₂)
       (P₁ : Passed M R q Fq p Fp gen F c₁) (P₂ : Passed M R q Fq p Fp gen F c₂) →
       Walked t n q Way (onto M R q Fq p Fp gen F P₁) (onto M R q Fq p Fp gen F P₂) → Walked t n q Way c₁ c₂
   onward p Fp gen F y c₁ c₂ l₁ l₂ i₁ i₂ P₁ P₂ (arrived L) = arrived record {
@@ -410,7 +419,7 @@ module _ {X Y Z pc cc np n : ℕ} {t : Tables} (M : IsMesh X Y Z pc cc np n t) (
     end₂ = L .end₂;
     end₁< = L .end₁<;
     end₂< = L .end₂<;
-    chain = onto-chain M R q Fq p Fp gen F Way y P₁ l₁ i₁ (L .chain);
+    path = onto-path M R q Fq p Fp gen F Way y P₁ l₁ i₁ (L .path);
     last = L .last;
     holds₁ = L .holds₁;
     holds₂ = L .holds₂;
@@ -419,7 +428,7 @@ module _ {X Y Z pc cc np n : ℕ} {t : Tables} (M : IsMesh X Y Z pc cc np n t) (
   onward p Fp gen F y c₁ c₂ l₁ l₂ i₁ i₂ P₁ P₂ (first-left L) = first-left (onto-leaves M R q Fq p Fp gen F P₁ l₁ L)
   onward p Fp gen F y c₁ c₂ l₁ l₂ i₁ i₂ P₁ P₂ (second-left L) = second-left (onto-leaves M R q Fq p Fp gen F P₂ l₂ L)
 
-  walk : (m : ℕ) (p : ℕ → ℤ) → Field t n p → Way p → Generic n q p → (c₁ c₂ : ℕ) → c₁ < n → c₂ < n → InsideBy p c₁ → InsideBy p c₂ → left n q p ≤ m → Walked t n q Way c₁ c₂
+  walk : (m : ℕ) (p : ℕ → ℤ) → Field t n p → Way p → Generic t n q p → (c₁ c₂ : ℕ) → IsCell t n c₁ → IsCell t n c₂ → InsideBy p c₁ → InsideBy p c₂ → left n q p ≤ m → Walked t n q Way c₁ c₂
   unfolding left
   walk zero p Fp y gen c₁ c₂ l₁ l₂ i₁ i₂ h = by (first (4 * n) p q)
     where
@@ -429,7 +438,7 @@ module _ {X Y Z pc cc np n : ℕ} {t : Tables} (M : IsMesh X Y Z pc cc np n t) (
   walk (suc m) p Fp y gen c₁ c₂ l₁ l₂ i₁ i₂ h =
       by (λ p Fp y gen c₁ c₂ l₁ l₂ i₁ i₂ h. walk m p Fp y gen c₁ c₂ l₁ l₂ i₁ i₂ h) (first (4 * n) p q)
     where
-      by : ((p : ℕ → ℤ) → Field t n p → Way p → Generic n q p → (c₁ c₂ : ℕ) → c₁ < n → c₂ < n → InsideBy p c₁ → InsideBy p c₂ → left n q p ≤ m → Walked t n q Way c₁ c₂) →
+      by : ((p : ℕ → ℤ) → Field t n p → Way p → Generic t n q p → (c₁ c₂ : ℕ) → IsCell t n c₁ → IsCell t n c₂ → InsideBy p c₁ → InsideBy p c₂ → left n q p ≤ m → Walked t n q Way c₁ c₂) →
           First (4 * n) p q ⊎ ((f : ℕ) → f < 4 * n → (p f ≤ℤ pos 0) ⊎ (pos 0 ≤ℤ q f)) → Walked t n q Way c₁ c₂
       by ih (inr free) = arrived (at-rest p y c₁ c₂ l₁ l₂ i₁ i₂ free)
       by ih (inl F) = both (pass M R q Fq p Fp gen F c₁ l₁ i₁) (pass M R q Fq p Fp gen F c₂ l₂ i₂)
@@ -443,5 +452,5 @@ module _ {X Y Z pc cc np n : ℕ} {t : Tables} (M : IsMesh X Y Z pc cc np n t) (
               (onto M R q Fq p Fp gen F P₁) (onto M R q Fq p Fp gen F P₂) (onto< M R q Fq p Fp gen F P₁ l₁) (onto< M R q Fq p Fp gen F P₂ l₂)
               (onto-inside M R q Fq p Fp gen F P₁) (onto-inside M R q Fq p Fp gen F P₂) (omega (arith, fewer M R q Fq p Fp gen F)))
 
-  pub walk-from : (p : ℕ → ℤ) → Field t n p → Way p → Generic n q p → (c₁ c₂ : ℕ) → c₁ < n → c₂ < n → InsideBy p c₁ → InsideBy p c₂ → Walked t n q Way c₁ c₂
+  pub walk-from : (p : ℕ → ℤ) → Field t n p → Way p → Generic t n q p → (c₁ c₂ : ℕ) → IsCell t n c₁ → IsCell t n c₂ → InsideBy p c₁ → InsideBy p c₂ → Walked t n q Way c₁ c₂
   walk-from p Fp y gen c₁ c₂ l₁ l₂ i₁ i₂ = walk (left n q p) p Fp y gen c₁ c₂ l₁ l₂ i₁ i₂ (le-refl (left n q p))

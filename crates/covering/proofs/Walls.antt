@@ -1,5 +1,5 @@
 -- M5 for places: a place of the box is not beyond any wall face. Its form is a weighted mean of those of the eight box corners.
-use Prim.Native.Nat.{ℕ, _*_, _≤_, _<_}
+use Prim.Native.Nat.{ℕ, _*_, _≤_}
 use mathlib.Core.Path.{_≡_, sym, _∙_, subst}
 use mathlib.Core.List.{[], _∷_}
 use native.Mathlib.Omega.{arith}
@@ -10,13 +10,13 @@ use Rattle.arith.proofs.Ring.{Expr, var, con, _⊖_, _⊗_}
 use Rattle.arith.proofs.Combine.{nonneg, times, term, done}
 use Rattle.geometry.specs.declared.Position.{Position}
 use Rattle.geometry.specs.Volume.{InBox}
-use Rattle.mesh.specs.Tables.{Tables, none, across, side}
+use Rattle.mesh.specs.Tables.{Tables, none, across, side, IsFace}
 use Rattle.mesh.specs.Mesh.{IsMesh}
 use Rattle.mesh.proofs.Walls.{wall-inner}
 use Rattle.covering.specs.Place.{Place, whole, InBoxAt}
 use Rattle.covering.proofs.Linear.{form, Row, row, r₄, env₄, lin, linₑ, o₀, e₁, e₂, e₃, form-of-sides, form-whole}
 
-module _ {X Y Z pc cc np n : ℕ} {t : Tables} (M : IsMesh X Y Z pc cc np n t) (f : ℕ) (f< : f < 4 * n) (bare : across t f ≡ none) (q : Place) (box : InBoxAt X Y Z q) where
+module _ {X Y Z pc cc np n : ℕ} {t : Tables} (M : IsMesh X Y Z pc cc np n t) (f : ℕ) (f< : IsFace t n f) (bare : across t f ≡ none) (q : Place) (box : InBoxAt X Y Z q) where
   abbrev a : ℤ
   a = side t e₁ f -ℤ side t o₀ f
 

@@ -20,13 +20,14 @@ use Rattle.insertion.specs.Look.{lookCall, markedCall}
 use Rattle.covering.specs.Place.{Place, InBoxAt, holdsAt, insideAt}
 use Rattle.covering.specs.Clauses.{Clause, sizes, positive-volumes, faces-on-walls, neighbour-numbers, same-points, far-side, volumes-add-up, isMeshBut}
 
--- 'every position of the box, at whole steps and at any fraction of one, is held by at least one cell, and lies strictly inside at most one'
+-- 'every position of the box, at whole steps and at any fraction of one, is held by at least one cell, and lies strictly inside at most one'; of n
+-- entries in use, of which a freed one holds nothing and has nothing strictly inside
 pub record Covering (X Y Z n : ℕ) (t : Tables) : Type 0 where
   pub nowhere-uncovered : (q : Place) → InBoxAt X Y Z q → (c : ℕ) × (c < n) × (holdsAt t q c ≡ true)
   pub nowhere-twice : (q : Place) (c d : ℕ) → c < n → d < n → insideAt t q c ≡ true → insideAt t q d ≡ true → c ≡ d
 
 abbrev pub Covers : Mesh → Tables → Type 0
-Covers m t = Covering (m .x) (m .y) (m .z) (m .cells) t
+Covers m t = Covering (m .x) (m .y) (m .z) (m .used) t
 
 -- 'in tables that pass the mesh check'
 abbrev pub Passes : Mesh → Tables → ℕ → Type 0
@@ -55,7 +56,7 @@ pub record Needed (out : Clause) : Type 0 where
   pub others : isMeshBut out mesh tables work ≡ true
   pub uncovered-or-twice : Covers mesh tables → ⊥
 
--- seven of the twelve clauses
+-- seven of the fourteen clauses
 pub record NeededClauses : Type 0 where
   pub capacities-sides-counts : Needed sizes
   pub neighbour-in-range : Needed neighbour-numbers

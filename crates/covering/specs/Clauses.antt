@@ -1,19 +1,20 @@
 -- The mesh check with one clause of 'What a mesh is' left out. With none left out it is the mesh check (`none-left-out` in proofs/Needed).
-use Prim.Native.Nat.{ℕ, _+_, _*_}
+use Prim.Native.Nat.{ℕ, _+_, _*_, _-_}
 use mathlib.Core.Bool.{Bool, _&&_, cond, _||_}
 use lib.Dec.{ltb, eqb}
 use lib.IntN.{pos}
 use lib.Signed.{ltZ}
-use Rattle.arith.specs.Table.{anyBelow, allBelow, sum}
+use Rattle.arith.specs.Table.{anyBelow, allBelow, countBelow, sum}
 use Rattle.geometry.specs.Volume.{inBox}
 use Rattle.mesh.specs.declared.Mesh.{Mesh}
-use Rattle.mesh.specs.Tables.{Tables, pointCapacity, cellCapacity, none, cellOf, opposite, point, corner, across, cornerAt, cellVolume, side, sameFace}
+use Rattle.mesh.specs.Tables.{Tables, pointCapacity, cellCapacity, none, cellOf, opposite, point, corner, across, cornerAt, cellVolume, side, sameFace, freed, live}
+use Rattle.mesh.specs.Chain.{chainOk}
 use Rattle.mesh.specs.Check.{sameZ, countsOk, boxOk, usedOk, someWall}
 
 -- capacities, sides and counts are taken as one clause
 pub data Clause : Type 0 where
   sizes box-corners points-inside points-used corner-numbers neighbour-numbers : Clause
-  positive-volumes faces-on-walls same-points named-back far-side volumes-add-up : Clause
+  positive-volumes faces-on-walls same-points named-back far-side volumes-add-up cell-count chain : Clause
   no-clause : Clause
 
 abbrev pub number : Clause → ℕ
@@ -29,7 +30,9 @@ number same-points = 8
 number named-back = 9
 number far-side = 10
 number volumes-add-up = 11
-number no-clause = 12
+number cell-count = 12
+number chain = 13
+number no-clause = 14
 
 -- the test of clause k, passed where k is left out
 abbrev pub unless : Clause → Clause → Bool → Bool
@@ -53,8 +56,12 @@ unfoldable pub meshCheckBut : Clause → ℕ → ℕ → ℕ → ℕ → ℕ →
 meshCheckBut out X Y Z pointCap cellCap np n t =
     unless out sizes (countsOk X Y Z pointCap cellCap np n) && (unless out box-corners (boxOk X Y Z t) &&
     ((unless out points-inside (allBelow np (λ k. inBox X Y Z (point t k))) && unless out points-used (allBelow np (usedOk t n))) &&
-    (allBelow n (cellOkBut out t np) && (allBelow (4 * n) (faceOkBut out X Y Z t n) &&
+    (allBelow n (λ c. freed t c || cellOkBut out t np c) && (allBelow (4 * n) (λ f. freed t (cellOf f) || faceOkBut out X Y Z t n f) &&
     unless out volumes-add-up (sameZ (sum n (cellVolume t)) (pos (6 * X * Y * Z)))))))
 
-abbrev pub isMeshBut : Clause → Mesh → Tables → ℕ → Bool
-isMeshBut out m t w = meshCheckBut out (m .x) (m .y) (m .z) (pointCapacity t) (cellCapacity t w) (m .points) (m .cells) t
+unfoldable pub entriesOkBut : Clause → Mesh → Tables → Bool
+entriesOkBut out m t =
+    unless out cell-count (eqb (m .cells) (countBelow (m .used) (live t))) && unless out chain (chainOk t (m .used) (m .used - m .cells) (m .chain))
+
+unfoldable pub isMeshBut : Clause → Mesh → Tables → ℕ → Bool
+isMeshBut out m t w = meshCheckBut out (m .x) (m .y) (m .z) (pointCapacity t) (cellCapacity t w) (m .points) (m .used) t && entriesOkBut out m t

@@ -9,9 +9,9 @@ use Rattle.mesh.specs.Tables.{Tables, corner, across, cellVolume}
 use Rattle.covering.specs.Place.{Place, tablesInParts, holdsAt, sideAt}
 
 -- from cell to neighbour, each time through a face k of a cell c with Through c k
-pub data Chain (t : Tables) (n : ℕ) (Through : ℕ → ℕ → Type 0) : ℕ → ℕ → Type 0 where
-  here : {c : ℕ} → Chain t n Through c c
-  step : {c d : ℕ} (k : ℕ) → k < 4 → Through c k → across t (4 * c + k) < n → Chain t n Through (across t (4 * c + k)) d → Chain t n Through c d
+pub data FacePath (t : Tables) (n : ℕ) (Through : ℕ → ℕ → Type 0) : ℕ → ℕ → Type 0 where
+  here : {c : ℕ} → FacePath t n Through c c
+  step : {c d : ℕ} (k : ℕ) → k < 4 → Through c k → across t (4 * c + k) < n → FacePath t n Through (across t (4 * c + k)) d → FacePath t n Through c d
 
 -- face k of cell c separates the cell from q
 abbrev pub Separates : Tables → Place → ℕ → ℕ → Type 0

@@ -31,7 +31,7 @@ use Rattle.gantry_numbers.specs.declared.GantryWritten.{GantryWritten}
 
 -- of a refused start, since no record goes in
 abbrev pub noMesh : Mesh
-noMesh = record { x = 0; y = 0; z = 0; points = 0; cells = 0 }
+noMesh = record { x = 0; y = 0; z = 0; points = 0; cells = 0; chain = 0; used = 0 }
 
 unfoldable pub startedOf : Started → GantryStarted
 startedOf (StartAccepted m) = record { refusal = 0; mesh = m }

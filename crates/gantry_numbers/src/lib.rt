@@ -89,6 +89,8 @@ fn no_mesh() -> Mesh
         z: 0,
         points: 0,
         cells: 0,
+        chain: 0,
+        used: 0,
     }
 }
 

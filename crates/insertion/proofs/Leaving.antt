@@ -10,23 +10,21 @@ use lib.ListN.{length, length-replicate}
 use borrow.Author.Tests.{ltb-false}
 use Rattle.geometry.specs.declared.Position.{Position}
 use Rattle.mesh.specs.declared.Mesh.{Mesh}
-use Rattle.mesh.specs.Tables.{Tables, pointCapacity, cellCapacity, cleared}
+use Rattle.mesh.specs.Tables.{Tables, cleared}
 use Rattle.mesh.proofs.Room.{room-of}
-use Rattle.mesh.proofs.Checked.{check-mesh}
 use Rattle.mesh.specs.Check.{isMesh}
 use Rattle.mesh.specs.Refusal.{meshRefusal}
-use Rattle.mesh.proofs.Verdict.{passed}
+use Rattle.mesh.proofs.Valid.{valid-of, passed}
 use Rattle.cavity.specs.Answers.{Answers, sphere}
 use Rattle.insertion.specs.declared.Attempt.{Attempt}
-use Rattle.insertion.specs.declared.Inserted.{Inserted}
 use Rattle.insertion.specs.declared.Inserted.the-variants.{Accepted, Refused}
 use Rattle.insertion.specs.declared.Listed.{Listed}
 use Rattle.insertion.specs.declared.Listed.the-variants.{Ended, Stopped, Refused as AllRefused}
 use Rattle.insertion.specs.declared.Report.{Report}
 use Rattle.insertion.specs.Insertion.{fewerBytes, insertNode, InsertLeaves}
 use Rattle.insertion.specs.List.{ListLeaves, insertFrom, listedNode, listedCount}
-use Rattle.insertion.specs.Inner.{AttemptLeaves, NodesLeave}
-use Rattle.insertion.proofs.Refusals.{refused-number, refused-leaves, node-leaves}
+use Rattle.insertion.specs.Inner.{Scratch, AttemptLeaves, NodesLeave}
+use Rattle.insertion.proofs.Refusals.{accepted-node, refused-number, refused-leaves, node-leaves}
 use Rattle.insertion.proofs.Growing.{accepted-checks, one-point-more}
 use Rattle.insertion.proofs.Steps.{list-goes-on, list-stops, list-ends, list-refused-leaves, list-leaves}
 
@@ -39,23 +37,23 @@ enough m t w false e = refl
 pub passed-at : (m : Mesh) (t : Tables) (w : ℕ) (fewer : Bool) {k : ℕ} → k ≡ meshRefusal m t w fewer → k ≡ 0 → isMesh m t w ≡ true
 passed-at m t w fewer e z = passed m t w fewer (sym e ∙ z)
 
-pub answered-at : (m : Mesh) (t : Tables) (w : ℕ) (bytes : List ℕ) {k : ℕ} → k ≡ meshRefusal m t w (ltb (length bytes) (m .cells)) → k ≡ 0 → m .cells ≤ length bytes
-answered-at m t w bytes e z = ltb-false (length bytes) (m .cells) (enough m t w (ltb (length bytes) (m .cells)) (sym e ∙ z))
+pub answered-at : (m : Mesh) (t : Tables) (w : ℕ) (bytes : List ℕ) {k : ℕ} → k ≡ meshRefusal m t w (ltb (length bytes) (m .used)) → k ≡ 0 → m .used ≤ length bytes
+answered-at m t w bytes e z = ltb-false (length bytes) (m .used) (enough m t w (ltb (length bytes) (m .used)) (sym e ∙ z))
 
 pub same-work : (ws : List ℕ) {ws′ : List ℕ} → ws′ ≡ cleared ws → length ws′ ≡ length ws
 same-work ws c = ap length c ∙ length-replicate (length ws) 0
 
 module _ (m : Mesh) (t : Tables) (ws : List ℕ) {ws′ : List ℕ} (c : ws′ ≡ cleared ws) where
   module _ (p : Position) (a : Answers) where
-    pub refused-at : {k : ℕ} → k ≡ meshRefusal m t (length ws′) (fewerBytes a (m .cells)) → k ≢ 0 → InsertLeaves m t ws p a (Refused k) t ws′
-    refused-at e d = refused-leaves m t ws ws′ p a c (e ∙ ap (λ w. meshRefusal m t w (fewerBytes a (m .cells))) (same-work ws c)) d
+    pub refused-at : {k : ℕ} → k ≡ meshRefusal m t (length ws′) (fewerBytes a (m .used)) → k ≢ 0 → InsertLeaves m t ws p a (Refused k) t ws′
+    refused-at e d = refused-leaves m t ws ws′ p a c (e ∙ ap (λ w. meshRefusal m t w (fewerBytes a (m .used))) (same-work ws c)) d
 
-    pub node-at : {marks : List ℕ} {k : ℕ} {g : Attempt} {t′ : Tables} → k ≡ meshRefusal m t (length ws′) (fewerBytes a (m .cells)) → k ≡ 0 →
+    pub node-at : {marks : List ℕ} {k : ℕ} {g : Attempt} {t′ : Tables} → k ≡ meshRefusal m t (length ws′) (fewerBytes a (m .used)) → k ≡ 0 →
         AttemptLeaves false marks m t (length ws′) p a g t′ → InsertLeaves m t ws p a (g .inserted) t′ ws′
     unfolding insertNode
     node-at {marks} {k} {g} {t′} e z L =
         let N = subst (λ w. AttemptLeaves false marks m t w p a g t′) (same-work ws c) L in
-        node-leaves m t ws ws′ p a c (sym (e ∙ ap (λ w. meshRefusal m t w (fewerBytes a (m .cells))) (same-work ws c)) ∙ z) (N .answer) (N .tables)
+        node-leaves m t ws ws′ p a c (sym (e ∙ ap (λ w. meshRefusal m t w (fewerBytes a (m .used))) (same-work ws c)) ∙ z) (N .answer) (N .tables)
 
   module _ (ns : List ℕ) where
     pub list-refused-at : {k : ℕ} → k ≡ meshRefusal m t (length ws′) false → k ≢ 0 → ListLeaves m t ws ns (AllRefused k) t ws′
@@ -81,7 +79,7 @@ pub record Inserting (m₀ : Mesh) (t₀ : Tables) (w : ℕ) (ns : List ℕ) (m 
 
 counted : (m : Mesh) (t : Tables) (w : ℕ) → isMesh m t w ≡ true → (8 ≤ m .points) × (m .points ≤ 1024)
 counted m t w e =
-    let M = check-mesh (m .x) (m .y) (m .z) (pointCapacity t) (cellCapacity t w) (m .points) (m .cells) t e in
+    let M = valid-of m t w e .mesh in
     (M .points≥, omega (arith, M .points≤, room-of t w .points≤))
 
 pub none-yet : (m : Mesh) (t : Tables) (w : ℕ) (ns : List ℕ) → isMesh m t w ≡ true → Inserting m t w ns m t 0
@@ -113,6 +111,14 @@ module _ {m₀ : Mesh} {t₀ : Tables} {w : ℕ} {ns : List ℕ} {m : Mesh} {t :
     neighbours-long = c ∙ P .neighbours-long;
     rest = sym (list-goes-on m t w ns i (listedCount ns) h (sym q ∙ L .answer) (L .tables)) ∙ P .rest;
   }
+
+  -- what is lent serves the next node too
+  pub scratch-next : {marks : List ℕ} {m′ : Mesh} {r : Report} {g : Attempt} {t′ : Tables} → AttemptLeaves false marks m t w (listedNode ns i) sphere g t′ → g .inserted ≡ Accepted m′ r →
+      {st li fa de ex nu : List ℕ} → (g .refusal ≡ 0 → Scratch (m .points + 1) st li fa de ex nu) → Scratch (m′ .points) st li fa de ex nu
+  unfolding insertNode
+  scratch-next L q {st} {li} {fa} {de} {ex} {nu} left =
+      let e = sym q ∙ L .answer in
+      subst (λ k. Scratch k st li fa de ex nu) (sym (one-point-more m t w (listedNode ns i) sphere e)) (left (L .refusal ∙ accepted-node m t w (listedNode ns i) sphere e .0))
 
   pub stops-here : i < listedCount ns → {marks : List ℕ} {g : Attempt} {e : ℕ} {t′ : Tables} → AttemptLeaves false marks m t w (listedNode ns i) sphere g t′ → g .inserted ≡ Refused e →
       NodesLeave m₀ t₀ w ns (Stopped m i (g .refusal)) t′

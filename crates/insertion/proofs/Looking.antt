@@ -54,7 +54,7 @@ pub begins-at : (expected bytes : List ℕ) (i : ℕ) → i < length expected �
 unfolding beginsWith
 begins-at expected bytes i h k = rw (drop-cons expected i 0 h, drop-cons bytes i 0 k, add-one)
 
--- ---- marks of n cells
+-- ---- marks of n entries
 
 pub marks-length : (n : ℕ) (isMarked : ℕ → Bool) → length (marksOf n isMarked) ≡ n
 marks-length n isMarked = tabulate-length n _
@@ -158,8 +158,8 @@ module _ (m : Mesh) (t : Tables) (ws : List ℕ) {ws′ : List ℕ} (c : ws′ �
 
 -- ---- a look after tests 1 to 3: a node by the sphere test, with marks to write
 
-pub looked-refused : {m : Mesh} {t : Tables} {bytes : List ℕ} {d : Node} {st li fa nu : List ℕ} {r : Found} →
-    Tested m t bytes d st li fa nu r → answersOf (d .handed) bytes ≡ sphere → (marks : List ℕ) → r .refusal ≢ 0 →
+pub looked-refused : {m : Mesh} {t : Tables} {bytes : List ℕ} {d : Node} {st li fa de nu : List ℕ} {r : Found} →
+    Tested m t bytes d st li fa de nu r → answersOf (d .handed) bytes ≡ sphere → (marks : List ℕ) → r .refusal ≢ 0 →
     NodeLooked m t (d .work) (d .position) marks (LookRefused (r .refusal)) t marks
 unfolding lookUnless
 looked-refused {m} {t} {d = d} {r = r} T own marks z =
@@ -168,7 +168,7 @@ looked-refused {m} {t} {d = d} {r = r} T own marks z =
     let f = ne-eqb (r .refusal) 0 z in
     record { answer = rw (q, f); tables = rw (q, f); marks-left = rw (q, f) }
 
-module _ {m : Mesh} {t : Tables} {bytes : List ℕ} {d : Node} {st li fa nu : List ℕ} {r : Found} (S : Starable m t bytes d st li fa nu r)
+module _ {m : Mesh} {t : Tables} {bytes : List ℕ} {d : Node} {st li fa de nu : List ℕ} {r : Found} (S : Starable m t bytes d st li fa de nu r)
     (own : answersOf (d .handed) bytes ≡ sphere) (marks : List ℕ) where
   abbrev p : Position
   p = d .position
@@ -176,22 +176,22 @@ module _ {m : Mesh} {t : Tables} {bytes : List ℕ} {d : Node} {st li fa nu : Li
   accepted : nodeRefusal m t (d .work) p sphere ≡ 0
   accepted = sym (ap (nodeRefusal m t (d .work) p) own) ∙ none-refused S
 
-  count : d .cells ≡ m .cells
-  count = S .admitted .node .cells-are
+  count : d .used ≡ m .used
+  count = S .admitted .node .used-are
 
-  pub looked-short : length marks < d .cells → NodeLooked m t (d .work) (d .position) marks (LookRefused 10) t marks
+  pub looked-short : length marks < d .used → NodeLooked m t (d .work) (d .position) marks (LookRefused 10) t marks
   unfolding lookUnless
   looked-short h =
       let q = look-passes m marks accepted in
-      let f = lt-ltb (length marks) (m .cells) (omega (arith, h, count)) in
+      let f = lt-ltb (length marks) (m .used) (omega (arith, h, count)) in
       record { answer = rw (q, f); tables = rw (q, f); marks-left = rw (q, f) }
 
-  pub looked-reported : d .cells ≤ length marks → {g : Report} {marks′ : List ℕ} → g ≡ reportWith m r → marks′ ≡ over (stateMarks (d .cells) st) marks →
+  pub looked-reported : d .used ≤ length marks → {g : Report} {marks′ : List ℕ} → g ≡ reportWith m r → marks′ ≡ over (stateMarks (d .used) st) marks →
       NodeLooked m t (d .work) (d .position) marks (Reported g) t marks′
   unfolding lookUnless
   looked-reported h eg em =
       let q = look-passes m marks accepted in
-      let f = le-ltb (length marks) (m .cells) (omega (arith, h, count)) in
+      let f = le-ltb (length marks) (m .used) (omega (arith, h, count)) in
       record {
         answer = rw (q, f) (ap Reported (eg ∙ (report-is S ∙ ap (reportOf m t p) own)));
         tables = rw (q, f);

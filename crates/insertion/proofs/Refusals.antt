@@ -17,7 +17,6 @@ use Rattle.geometry.specs.Volume.{InBox, inBox, samePosition}
 use Rattle.geometry.proofs.Ranges.{box-in}
 use Rattle.mesh.specs.declared.Mesh.{Mesh}
 use Rattle.mesh.specs.Tables.{Tables, pointCapacity, cellCapacity, cleared, point}
-use Rattle.mesh.specs.Mesh.{IsMesh}
 use Rattle.mesh.specs.Check.{legalBox, isMesh}
 use Rattle.mesh.specs.Start.{short}
 use Rattle.mesh.specs.Refusal.{meshRefusal}
@@ -29,10 +28,6 @@ use Rattle.insertion.specs.declared.Inserted.{Inserted}
 use Rattle.insertion.specs.declared.Inserted.the-variants.{Accepted, Refused}
 use Rattle.insertion.specs.Insertion.{cellsMade, nodeRefusal, fewerBytes, firstOf, insertRefusal, reportOf, insertedMesh, insertedTables, insertUnless, insertNode, insertCall, InsertLeaves}
 use Rattle.insertion.specs.Look.{cavityMarks, lookRefusal, beginsWith, markedRefusal}
-
--- a record and tables are a mesh for a work area of w entries
-abbrev pub MeshFor : Mesh → Tables → ℕ → Type 0
-MeshFor m t w = IsMesh (m .x) (m .y) (m .z) (pointCapacity t) (cellCapacity t w) (m .points) (m .cells) t
 
 -- a test of a chain of refusals that comes to 0
 pub test-to-zero : {b : Bool} {k r : ℕ} → 1 ≤ k → cond b k r ≡ 0 → (b ≡ false) × (r ≡ 0)
@@ -65,7 +60,7 @@ both-pass r k e = go (ℕ-discrete r 0)
 -- of a look: r is the insertion's
 module _ (m : Mesh) (marks : List ℕ) where
   abbrev shortMarks : ℕ
-  shortMarks = cond (ltb (length marks) (m .cells)) 10 0
+  shortMarks = cond (ltb (length marks) (m .used)) 10 0
 
   module _ {r : ℕ} where
     pub look-refuses : {e : ℕ} → r ≡ e → e ≢ 0 → lookRefusal r m marks ≡ e
@@ -148,7 +143,7 @@ module _ (m : Mesh) (t : Tables) (w : ℕ) (p : Position) (a : Answers) where
   pointsFull = eqb (m .points) (pointCapacity t)
 
   abbrev held : Bool
-  held = anyBelow (m .cells) (holds t p)
+  held = anyBelow (m .used) (holds t p)
 
   abbrev cellsFull : Bool
   cellsFull = ltb (cellCapacity t w) (m .cells + cellsMade m t p a)
@@ -185,7 +180,7 @@ module _ (m : Mesh) (t : Tables) (w : ℕ) (p : Position) (a : Answers) where
     pub box : InBox (m .x) (m .y) (m .z) p
     pub free : (k : ℕ) → k < m .points → p ≢ point t k
     pub next : m .points ≢ pointCapacity t
-    pub holder : Found (m .cells) (holds t p)
+    pub holder : Found (m .used) (holds t p)
     pub cells : m .cells + cellsMade m t p a ≤ cellCapacity t w
 
   pub node-fits : nodeRefusal m t w p a ≡ 0 → NodeFits
@@ -200,14 +195,14 @@ module _ (m : Mesh) (t : Tables) (w : ℕ) (p : Position) (a : Answers) where
         box = box-in (not-false inside (t₁ .0));
         free = λ k l q. clash (any-intro (m .points) there k l (same-position-yes (point t k) p (sym q))) (t₂ .0);
         next = eqb-false (m .points) (pointCapacity t) (t₃ .0);
-        holder = any-found (m .cells) (holds t p) (not-false held (t₄ .0));
+        holder = any-found (m .used) (holds t p) (not-false held (t₄ .0));
         cells = ltb-false (cellCapacity t w) (m .cells + cellsMade m t p a) (t₅ .0);
       }
 
   -- ---- answers from refusals
 
   abbrev firstThree : ℕ
-  firstThree = meshRefusal m t w (fewerBytes a (m .cells))
+  firstThree = meshRefusal m t w (fewerBytes a (m .used))
 
   pub node-accepted : nodeRefusal m t w p a ≡ 0 →
       insertNode m t w p a ≡ record { answer = Accepted (insertedMesh m t p a) (reportOf m t p a); tables = insertedTables m t p a }
@@ -223,7 +218,7 @@ module _ (m : Mesh) (t : Tables) (w : ℕ) (p : Position) (a : Answers) where
   up-to-eight =
       chain≤ (eqb firstThree 0)
       (chain≤ (not inside) (omega arith) (chain≤ someThere (omega arith) (chain≤ pointsFull (omega arith) (chain≤ (not held) (omega arith) (chain≤ cellsFull (omega arith) (omega arith))))))
-      (chain≤ (fewerBytes a (m .cells) || short t w) (omega arith) (chain≤ (not (legalBox (m .x) (m .y) (m .z))) (omega arith) (chain≤ (not (isMesh m t w)) (omega arith) (omega arith))))
+      (chain≤ (fewerBytes a (m .used) || short t w) (omega arith) (chain≤ (not (legalBox (m .x) (m .y) (m .z))) (omega arith) (chain≤ (not (isMesh m t w)) (omega arith) (omega arith))))
 
   -- a call that no test refuses
   pub tests-passed : insertRefusal m t w p a ≡ 0 → (firstThree ≡ 0) × (nodeRefusal m t w p a ≡ 0)
@@ -267,12 +262,12 @@ module _ (m : Mesh) (t : Tables) (w : ℕ) (p : Position) (a : Answers) where
 -- ---- the contract of a call
 
 module _ (m : Mesh) (t : Tables) (ws ws′ : List ℕ) (p : Position) (a : Answers) (c : ws′ ≡ cleared ws) where
-  pub refused-leaves : {k : ℕ} → k ≡ meshRefusal m t (length ws) (fewerBytes a (m .cells)) → k ≢ 0 → InsertLeaves m t ws p a (Refused k) t ws′
+  pub refused-leaves : {k : ℕ} → k ≡ meshRefusal m t (length ws) (fewerBytes a (m .used)) → k ≢ 0 → InsertLeaves m t ws p a (Refused k) t ws′
   refused-leaves e d =
       let q = call-refused m t (length ws) p a (sym e) d in
       record { answer = sym (ap (λ l. l .answer) q); tables = sym (ap (λ l. l .tables) q); work = c }
 
-  pub node-leaves : {r : Inserted} {t′ : Tables} → meshRefusal m t (length ws) (fewerBytes a (m .cells)) ≡ 0 →
+  pub node-leaves : {r : Inserted} {t′ : Tables} → meshRefusal m t (length ws) (fewerBytes a (m .used)) ≡ 0 →
       r ≡ insertNode m t (length ws) p a .answer → t′ ≡ insertNode m t (length ws) p a .tables → InsertLeaves m t ws p a r t′ ws′
   node-leaves e f g =
       let q = call-is-node m t (length ws) p a e in

@@ -16,8 +16,9 @@ use Rattle.cavity.specs.declared.Node.{Node}
 use Rattle.cavity.specs.declared.Extent.{Extent}
 use Rattle.cavity.specs.Answers.{Answers, sphere, answersOf}
 use Rattle.cavity.specs.Inner.{inside, setOf, CavityFound}
+use Rattle.cavity.specs.Inner.Growth.{Empty, Unstamped}
 use Rattle.star.specs.Star.{madeCount}
-use Rattle.star.specs.Inner.{Lookup, Numbered}
+use Rattle.star.specs.Inner.{Ranked, Rising}
 use Rattle.insertion.specs.declared.Found.{Found}
 use Rattle.insertion.specs.declared.Report.{Report}
 use Rattle.insertion.specs.declared.Attempt.{Attempt}
@@ -28,6 +29,14 @@ use Rattle.insertion.specs.declared.Looked.{Looked}
 use Rattle.insertion.specs.Insertion.{Result, nodeRefusal, insertUnless}
 use Rattle.insertion.specs.List.{listedCount, insertFrom}
 use Rattle.insertion.specs.Look.{marksOf, lookRefusal, LookResult, lookUnless, beginsWith, markedRefusal}
+
+-- what is lent to a node for its own use: states that are all 0, notes below its stamp, and room for the rest, which may hold anything
+pub record Scratch (stamp : ℕ) (st li fa de ex nu : List ℕ) : Type 0 where
+  pub empty : Empty st li
+  pub codes : length fa ≡ 4096
+  pub notes : Unstamped stamp de
+  pub exposed : length ex ≡ 1024
+  pub ranks : length nu ≡ 4096
 
 -- one of the first np codes is 0: a point lies at the position
 unfoldable pub someZero : List ℕ → ℕ → Bool
@@ -49,56 +58,59 @@ pub record NodeOf (m : Mesh) (t : Tables) (bytes : List ℕ) (d : Node) : Type 0
   pub mesh : isMesh m t (d .work) ≡ true
   pub points-are : d .points ≡ m .points
   pub cells-are : d .cells ≡ m .cells
-  pub answered : d .handed ≡ true → m .cells ≤ length bytes
+  pub used-are : d .used ≡ m .used
+  pub answered : d .handed ≡ true → m .used ≤ length bytes
 
 -- and tests 4 to 6
 pub record Admitted (m : Mesh) (t : Tables) (bytes : List ℕ) (d : Node) : Type 0 where
   pub node : NodeOf m t bytes d
   pub place : FreePlace m t (d .position)
 
--- and tests 7 and 8: its cavity is found, the cells are numbered, and there is room for the star
-pub record Starable (m : Mesh) (t : Tables) (bytes : List ℕ) (d : Node) (st li fa nu : List ℕ) (r : Found) : Type 0 where
+-- and tests 7 and 8: its cavity is found and listed by rising numbers, the new cells are ranked, and there is room for them
+pub record Starable (m : Mesh) (t : Tables) (bytes : List ℕ) (d : Node) (st li fa de nu : List ℕ) (r : Found) : Type 0 where
   pub admitted : Admitted m t bytes d
-  pub found : CavityFound (answersOf (d .handed) bytes) t (d .position) (d .cells) st li fa (r .extent)
+  pub found : CavityFound (answersOf (d .handed) bytes) t (d .position) (d .used) st li fa (r .extent)
   pub some : r .extent .before ≢ 0
-  pub counted : r .made ≡ madeCount t (d .cells) (d .position) (setOf (d .cells) st)
-  pub numbered : Numbered t (d .cells) (d .position) (setOf (d .cells) st) nu
-  pub numbers : Lookup nu
+  pub counted : r .made ≡ madeCount t (d .used) (d .position) (setOf (d .used) st)
+  pub rising : Rising (d .used) (setOf (d .used) st) li (r .extent .after)
+  pub ranked : Ranked t (d .used) (d .position) (setOf (d .used) st) nu
+  pub ranks-long : length nu ≡ 4096
+  pub notes : Unstamped (m .points + 1) de
   pub room : d .cells + r .made ≤ cellCapacity t (d .work)
 
 -- test 8 of a node with the cavity s, of extent e
 unfoldable pub starFound : Tables → Node → List Bool → Extent → Found
 starFound t d s e =
     record {
-      refusal = cond (ltb (cellCapacity t (d .work)) (d .cells + madeCount t (d .cells) (d .position) s)) 8 0;
+      refusal = cond (ltb (cellCapacity t (d .work)) (d .cells + madeCount t (d .used) (d .position) s)) 8 0;
       extent = e;
-      made = madeCount t (d .cells) (d .position) s;
+      made = madeCount t (d .used) (d .position) s;
     }
 
 -- what tests 4 to 8 answer
-pub record Tested (m : Mesh) (t : Tables) (bytes : List ℕ) (d : Node) (st li fa nu : List ℕ) (r : Found) : Type 0 where
+pub record Tested (m : Mesh) (t : Tables) (bytes : List ℕ) (d : Node) (st li fa de nu : List ℕ) (r : Found) : Type 0 where
   pub refusal-is : r .refusal ≡ nodeRefusal m t (d .work) (d .position) (answersOf (d .handed) bytes)
-  pub starable : r .refusal ≡ 0 → Starable m t bytes d st li fa nu r
+  pub starable : r .refusal ≡ 0 → Starable m t bytes d st li fa de nu r
 
 -- the report of a node with this cavity and star
 unfoldable pub reportWith : Mesh → Found → Report
 reportWith m r =
     record { point = m .points; before = r .extent .before; after = r .extent .after; made = r .made; least = r .extent .least }
 
--- the record and the report of a node that is accepted with them
-unfoldable pub acceptedWith : Mesh → Found → Inserted
-acceptedWith m r =
+-- the record and the report of a node that is accepted with them, with this chain and used length after
+unfoldable pub acceptedWith : Mesh → Found → ℕ → ℕ → Inserted
+acceptedWith m r chain used =
     Accepted
-    record { x = m .x; y = m .y; z = m .z; points = m .points + 1; cells = m .cells - r .extent .after + r .made }
+    record { x = m .x; y = m .y; z = m .z; points = m .points + 1; cells = m .cells - r .extent .after + r .made; chain = chain; used = used }
     (reportWith m r)
 
 -- ---- marks
 
--- the marks of n cells with the states st
+-- the marks of n entries with the states st
 abbrev pub stateMarks : ℕ → List ℕ → List ℕ
 stateMarks n st = marksOf n (inside st)
 
--- no marks are asked for, or these are those of n cells with the states st
+-- no marks are asked for, or these are those of n entries with the states st
 unfoldable pub marksAllow : Bool → ℕ → List ℕ → List ℕ → Bool
 marksAllow asked n st marks = not asked || beginsWith (stateMarks n st) marks
 

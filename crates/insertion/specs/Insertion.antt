@@ -1,5 +1,5 @@
 -- Inserting one node, by the sphere test or by answers handed in: refusals, report, record and tables.
-use Prim.Native.Nat.{ℕ, _+_}
+use Prim.Native.Nat.{ℕ, _+_, _-_}
 use mathlib.Core.Bool.{Bool, false, not, cond}
 use mathlib.Core.List.{List}
 use mathlib.Core.Path.{_≡_}
@@ -10,26 +10,27 @@ use Rattle.geometry.specs.declared.Position.{Position}
 use Rattle.geometry.specs.Volume.{inBox, samePosition}
 use Rattle.mesh.specs.declared.Mesh.{Mesh}
 use Rattle.mesh.specs.Tables.{Tables, pointCapacity, cellCapacity, cleared, point}
+use Rattle.mesh.specs.Chain.{chainOf}
 use Rattle.mesh.specs.Refusal.{meshRefusal}
 use Rattle.locate.specs.Locate.{holds}
 use Rattle.cavity.specs.Answers.{Answers, sphere, handed, saysYes, reportT, leastT}
 use Rattle.cavity.specs.Cavity.{cavityOf, correctedCavity, cavitySize}
-use Rattle.star.specs.Star.{madeCount, newCount, star}
+use Rattle.star.specs.Star.{madeCount, usedAfter, chainAfter, star}
 use Rattle.insertion.specs.declared.Report.{Report}
 use Rattle.insertion.specs.declared.Inserted.{Inserted}
 use Rattle.insertion.specs.declared.Inserted.the-variants.{Accepted, Refused}
 
 -- the cavity of p before correction
 unfoldable pub firstCavity : Mesh → Tables → Position → Answers → List Bool
-firstCavity m t p a = cavityOf t (m .cells) p (saysYes a t p)
+firstCavity m t p a = cavityOf t (m .used) p (saysYes a t p)
 
 -- and after it
 unfoldable pub lastCavity : Mesh → Tables → Position → Answers → List Bool
-lastCavity m t p a = correctedCavity t (m .cells) p (saysYes a t p)
+lastCavity m t p a = correctedCavity t (m .used) p (saysYes a t p)
 
 -- 'cells made'
 unfoldable pub cellsMade : Mesh → Tables → Position → Answers → ℕ
-cellsMade m t p a = madeCount t (m .cells) p (lastCavity m t p a)
+cellsMade m t p a = madeCount t (m .used) p (lastCavity m t p a)
 
 -- refusals 4 to 8 of a node, checked in number order; 0 where there is none. After tests 1 to 3, 7 never occurs:
 -- `never-seven` (covering/proofs/NeverSeven).
@@ -38,10 +39,10 @@ nodeRefusal m t w p a =
     cond (not (inBox (m .x) (m .y) (m .z) p)) 4
     (cond (anyBelow (m .points) (λ k. samePosition (point t k) p)) 5
     (cond (eqb (m .points) (pointCapacity t)) 6
-    (cond (not (anyBelow (m .cells) (holds t p))) 7
+    (cond (not (anyBelow (m .used) (holds t p))) 7
     (cond (ltb (cellCapacity t w) (m .cells + cellsMade m t p a)) 8 0))))
 
--- 'fewer answer bytes than cells'
+-- 'too few is now 1 for answers': fewer than entries in use
 unfoldable pub fewerBytes : Answers → ℕ → Bool
 fewerBytes sphere n = false
 fewerBytes (handed bytes) n = ltb (length bytes) n
@@ -52,17 +53,17 @@ firstOf r k = cond (eqb r 0) k r
 
 -- refusals 1 to 8
 unfoldable pub insertRefusal : Mesh → Tables → ℕ → Position → Answers → ℕ
-insertRefusal m t w p a = firstOf (meshRefusal m t w (fewerBytes a (m .cells))) (nodeRefusal m t w p a)
+insertRefusal m t w p a = firstOf (meshRefusal m t w (fewerBytes a (m .used))) (nodeRefusal m t w p a)
 
 -- 'point number, spot size before and after correction, cells made, and the least T over the spot before correction'
 unfoldable pub reportOf : Mesh → Tables → Position → Answers → Report
 reportOf m t p a =
     record {
       point = m .points;
-      before = cavitySize (m .cells) (firstCavity m t p a);
-      after = cavitySize (m .cells) (lastCavity m t p a);
+      before = cavitySize (m .used) (firstCavity m t p a);
+      after = cavitySize (m .used) (lastCavity m t p a);
       made = cellsMade m t p a;
-      least = leastT (reportT a t p) (m .cells) (firstCavity m t p a);
+      least = leastT (reportT a t p) (m .used) (firstCavity m t p a);
     }
 
 -- the record with p inserted
@@ -73,12 +74,14 @@ insertedMesh m t p a =
       y = m .y;
       z = m .z;
       points = m .points + 1;
-      cells = newCount t (m .cells) p (lastCavity m t p a);
+      cells = m .cells - cavitySize (m .used) (lastCavity m t p a) + cellsMade m t p a;
+      chain = chainAfter (chainOf m t) t (m .used) p (lastCavity m t p a);
+      used = usedAfter (chainOf m t) (m .used) (cellsMade m t p a);
     }
 
 -- and the tables: 'P gets the next point number.'
 unfoldable pub insertedTables : Mesh → Tables → Position → Answers → Tables
-insertedTables m t p a = star t (m .cells) p (m .points) (lastCavity m t p a)
+insertedTables m t p a = star (chainOf m t) t (m .used) p (m .points) (lastCavity m t p a)
 
 -- what a call answers, and the tables that it leaves
 pub record Result (Answer : Type 0) : Type 0 where

@@ -17,18 +17,19 @@ use Rattle.insertion.specs.declared.Looked.{Looked}
 use Rattle.insertion.specs.declared.Looked.the-variants.{Reported, Refused}
 use Rattle.insertion.specs.Insertion.{Result, lastCavity, firstOf, insertRefusal, reportOf, insertUnless}
 
--- a byte for each of n cells
+-- a byte for each of n entries
 abbrev pub marksOf : ℕ → (ℕ → Bool) → List ℕ
 marksOf n isMarked = tabulate n (λ c. cond (isMarked c) 1 0)
 
--- 'marks each cell of the corrected spot with byte 1, all other cells with 0'
+-- 'marks each cell of the corrected spot with byte 1, all other cells with 0'; 'marks go by entry up to the used length', and a freed entry's
+-- 'mark is 0' (document 02 §11)
 unfoldable pub cavityMarks : Mesh → Tables → Position → Answers → List ℕ
-cavityMarks m t p a = marksOf (m .cells) (inSet (lastCavity m t p a))
+cavityMarks m t p a = marksOf (m .used) (inSet (lastCavity m t p a))
 
--- where the insertion's refusal is r: 'it is refused where the insertion would be, and with 10 if the marks have fewer bytes than there
--- are cells'
+-- where the insertion's refusal is r: 'it is refused where the insertion would be', and with 10 if the marks have fewer bytes than
+-- entries are in use
 unfoldable pub lookRefusal : ℕ → Mesh → List ℕ → ℕ
-lookRefusal r m marks = firstOf r (cond (ltb (length marks) (m .cells)) 10 0)
+lookRefusal r m marks = firstOf r (cond (ltb (length marks) (m .used)) 10 0)
 
 -- what a look answers, and the tables and marks that it leaves
 pub record LookResult : Type 0 where
@@ -36,7 +37,7 @@ pub record LookResult : Type 0 where
   pub tables : Tables
   pub marks : List ℕ
 
--- with the refusal r: 'A look answers the report and marks each cell .. and changes nothing else': marks beyond the cell count stay as they
+-- with the refusal r: 'A look answers the report and marks each cell .. and changes nothing else': marks beyond the used length stay as they
 -- were, and all of them where it is refused
 unfoldable pub lookUnless : ℕ → Mesh → Tables → Position → List ℕ → LookResult
 lookUnless r m t p marks =

@@ -1,9 +1,7 @@
 // Tests 4 to 8 of a node. Nothing of the mesh is written.
 
 ghost use Rattle.mesh.specs.Tables.{tablesIn, tablesBefore};
-ghost use Rattle.cavity.specs.Inner.Growth.{Empty, Blank};
-ghost use Rattle.star.specs.Inner.{Lookup};
-ghost use Rattle.insertion.specs.Inner.{NodeOf, Tested};
+ghost use Rattle.insertion.specs.Inner.{Scratch, NodeOf, Tested};
 use cavity::Extent;
 use cavity::Node;
 use cavity_find::find_cavity;
@@ -13,7 +11,7 @@ use insertion_tests::star_room;
 use locate_holding::side_codes;
 use mesh::Mesh;
 
-// Tests 4 to 8. Where none refuses, the node's cavity is found, and the cells are numbered as its star will leave them.
+// Tests 4 to 8. Where none refuses, the node's cavity is found, its cells listed by rising numbers, and the cells of its star ranked.
 pub fn find(
     mesh: Mesh,
     points: &[u32],
@@ -24,11 +22,14 @@ pub fn find(
     state: &mut [u8],
     list: &mut [u16],
     faces: &mut [u8],
-    numbers: &mut [u16],
+    denied: &mut [u16],
+    exposed: &mut [u8],
+    ranks: &mut [u16],
 ) -> Found
-    requires { ⌜ NodeOf mesh (tablesIn points corners neighbours) (now answers) node × Empty (now state) (now list) × Blank (now faces) × Lookup (now numbers) ⌝ }
+    requires { ⌜ NodeOf mesh (tablesIn points corners neighbours) (now answers) node
+        × Scratch (mesh .points) (now state) (now list) (now faces) (now denied) (now exposed) (now ranks) ⌝ }
     ensures { λ r. ⌜ Tested mesh (tablesBefore points corners neighbours) (now (answers .entry)) node
-        (now (state .exit)) (now (list .exit)) (now (faces .exit)) (now (numbers .exit)) r ⌝ }
+        (now (state .exit)) (now (list .exit)) (now (faces .exit)) (now (denied .exit)) (now (ranks .exit)) r ⌝ }
 {
     let q = node.position;
     let codes = side_codes(points, node.points, q);
@@ -54,6 +55,8 @@ pub fn find(
         state,
         list,
         faces,
+        denied,
+        exposed,
     );
     if extent.before == 0 {
         return Found {
@@ -69,7 +72,8 @@ pub fn find(
         node,
         extent,
         state,
+        list,
         faces,
-        numbers,
+        ranks,
     )
 }

@@ -8,13 +8,14 @@ ghost use Rattle.insertion.specs.List.{ListLeaves};
 ghost use Rattle.insertion.specs.Inner.{NodesLeave};
 use insertion::Inserted;
 use insertion::Listed;
-use insertion_node::insert_node;
+use insertion_node::attempt_node;
 use mesh::Mesh;
 use mesh_check::mesh_refusal;
 use mesh_tables::clear;
 use mesh_tables::point_at;
 
-// The nodes one by one, up to the first that is refused. The mesh is not checked again: an accepted node leaves one.
+// The nodes one by one, up to the first that is refused. The mesh is not checked again: an accepted node leaves one. No array is cleared
+// between nodes.
 fn insert_nodes(
     mesh: Mesh,
     points: &mut [u32],
@@ -27,11 +28,18 @@ fn insert_nodes(
     ensures { λ r. ⌜ NodesLeave mesh (tablesBefore points corners neighbours) work (now (nodes .entry)) r (tablesAfter points corners neighbours) ⌝ }
 {
     let none = [0u8; 1];
+    let mut state = [0u8; 4096];
+    let mut list = [0u16; 4096];
+    let mut faces = [0u8; 4096];
+    let mut denied = [0u16; 4096];
+    let mut exposed = [0u8; 1024];
+    let mut ranks = [0u16; 4096];
+    let mut slots = [0u16; 4096];
     let count = nodes.len() / 3;
     let mut now = mesh;
     let mut i: usize = 0;
     while i < count {
-        let attempt = insert_node(
+        let attempt = attempt_node(
             now,
             points,
             corners,
@@ -42,6 +50,13 @@ fn insert_nodes(
             &none,
             false,
             point_at(nodes, i),
+            &mut state,
+            &mut list,
+            &mut faces,
+            &mut denied,
+            &mut exposed,
+            &mut ranks,
+            &mut slots,
         );
         let answer = attempt.inserted;
         let Inserted::Accepted(next, _) = answer else {

@@ -33,6 +33,7 @@ fn look_node(
         position: q,
         points: mesh.points as usize,
         cells: mesh.cells as usize,
+        used: mesh.used as usize,
         work: work,
         handed: false,
     };
@@ -40,7 +41,9 @@ fn look_node(
     let mut state = [0u8; 4096];
     let mut list = [0u16; 4096];
     let mut faces = [0u8; 4096];
-    let mut numbers = [65535u16; 8192]; // for each of 4,096 cells, and a place for none
+    let mut denied = [0u16; 4096];
+    let mut exposed = [0u8; 1024];
+    let mut ranks = [0u16; 4096];
     let found = find(
         mesh,
         points,
@@ -51,21 +54,23 @@ fn look_node(
         &mut state,
         &mut list,
         &mut faces,
-        &mut numbers,
+        &mut denied,
+        &mut exposed,
+        &mut ranks,
     );
     let refusal = found.refusal;
     if refusal != 0 {
         return Looked::Refused(refusal);
     }
-    if marks.len() < node.cells {
+    if marks.len() < node.used {
         return Looked::Refused(10);
     }
     let seen = report(mesh, found);
-    write_marks(node.cells, &state, marks);
+    write_marks(node.used, &state, marks);
     Looked::Reported(seen)
 }
 
-// Looks at the insertion of a node by the sphere test: its report, and a mark for each cell, 1 where it would be replaced.
+// Looks at the insertion of a node by the sphere test: its report, and a mark for each entry in use, 1 where its cell would be replaced.
 pub fn look(
     mesh: Mesh,
     points: &[u32],

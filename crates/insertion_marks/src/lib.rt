@@ -1,4 +1,4 @@
-// A look's marks, by the states of the cells: written, and compared with marks handed in.
+// A look's marks, by the states of the entries: written, and compared with marks handed in.
 
 ghost use mathlib.Core.Bool.{cond};
 ghost use mathlib.Core.Path.{_≡_};
@@ -8,14 +8,14 @@ ghost use lib.Dec.{ltb};
 ghost use Rattle.mesh.specs.Start.{over};
 ghost use Rattle.insertion.specs.Inner.{stateMarks, marksAllow};
 
-// 1 for a cell of the cavity, else 0.
+// 1 for a cell of the cavity, else 0: for a freed entry too.
 fn mark_of(state: u8) -> u8
     ensures { λ r. ⌜ r ≡ cond (ltb 0 state) 1 0 ⌝ }
 {
     (state > 0) as u8
 }
 
-// Writes the marks of the first n cells.
+// Writes the marks of the first n entries.
 pub fn write_marks(n: usize, state: &[u8], marks: &mut [u8])
     requires { ⌜ (n ≤ length (now state)) × (n ≤ length (now marks)) ⌝ }
     ensures { λ _. ⌜ now (marks .exit) ≡ over (stateMarks n (now (state .entry))) (now (marks .entry)) ⌝ }
@@ -27,7 +27,7 @@ pub fn write_marks(n: usize, state: &[u8], marks: &mut [u8])
     }
 }
 
-// Whether no marks are asked for, or these are the marks of the first n cells.
+// Whether no marks are asked for, or these are the marks of the first n entries.
 pub fn marks_allow(asked: bool, n: usize, state: &[u8], marks: &[u8]) -> bool
     requires { ⌜ n ≤ length (now state) ⌝ }
     ensures { λ r. ⌜ r ≡ marksAllow asked n (now (state .entry)) (now (marks .entry)) ⌝ }

@@ -2,13 +2,14 @@
 
 ghost use mathlib.Core.Bool.{true};
 ghost use mathlib.Core.Path.{_≡_};
-ghost use Prim.Native.Nat.{_≤_};
+ghost use Prim.Native.Nat.{_+_, _≤_};
 ghost use lib.ListN.{length};
 ghost use Rattle.mesh.specs.Check.{isMesh};
 ghost use Rattle.mesh.specs.Tables.{tablesIn, tablesBefore, tablesAfter};
 ghost use Rattle.cavity.specs.Answers.{answersOf};
-ghost use Rattle.insertion.specs.Inner.{AttemptLeaves};
+ghost use Rattle.insertion.specs.Inner.{AttemptLeaves, Scratch};
 use cavity::Node;
+use cavity_find::clear_states;
 use geometry::Position;
 use insertion::Attempt;
 use insertion::Inserted;
@@ -16,10 +17,94 @@ use insertion_find::find;
 use insertion_marks::marks_allow;
 use insertion_report::accepted;
 use mesh::Mesh;
-use star::Replaced;
+use star_numbers::take_slots;
 use star_replace::replace_cavity;
 
-// A node by the sphere test or by answers handed in; where marks are asked for, only if these are the marks of a look.
+// A node by the sphere test or by answers handed in; where marks are asked for, only if these are the marks of a look. What is lent from
+// `state` on serves node after node: after an accepted one it is as it has to be for the next.
+pub fn attempt_node(
+    mesh: Mesh,
+    points: &mut [u32],
+    corners: &mut [u16],
+    neighbours: &mut [u16],
+    work: usize,
+    answers: &[u8],
+    handed: bool,
+    marks: &[u8],
+    asked: bool,
+    q: Position,
+    state: &mut [u8],
+    list: &mut [u16],
+    faces: &mut [u8],
+    denied: &mut [u16],
+    exposed: &mut [u8],
+    ranks: &mut [u16],
+    slots: &mut [u16],
+) -> Attempt
+    requires { ⌜ (isMesh mesh (tablesIn points corners neighbours) work ≡ true) × (handed ≡ true → mesh .used ≤ length (now answers))
+        × Scratch (mesh .points) (now state) (now list) (now faces) (now denied) (now exposed) (now ranks) × (length (now slots) ≡ 4096) ⌝ }
+    ensures { λ r. ⌜ AttemptLeaves asked (now (marks .entry)) mesh (tablesBefore points corners neighbours) work q (answersOf handed (now (answers .entry)))
+        r (tablesAfter points corners neighbours)
+        × (r .refusal ≡ 0 → Scratch (mesh .points + 1) (now (state .exit)) (now (list .exit)) (now (faces .exit)) (now (denied .exit)) (now (exposed .exit)) (now (ranks .exit))) ⌝ }
+{
+    let node = Node {
+        position: q,
+        points: mesh.points as usize,
+        cells: mesh.cells as usize,
+        used: mesh.used as usize,
+        work: work,
+        handed: handed,
+    };
+    let found = find(
+        mesh,
+        points,
+        corners,
+        neighbours,
+        answers,
+        node,
+        state,
+        list,
+        faces,
+        denied,
+        exposed,
+        ranks,
+    );
+    let refusal = found.refusal;
+    if refusal != 0 {
+        return Attempt {
+            refusal: refusal,
+            inserted: Inserted::Refused(refusal),
+        };
+    }
+    if !marks_allow(asked, node.used, state, marks) {
+        return Attempt {
+            refusal: 14,
+            inserted: Inserted::Refused(14),
+        };
+    }
+    let size = found.extent.after;
+    let left = take_slots(neighbours, mesh.chain as u16, node.used, found.made, slots);
+    let chain = replace_cavity(
+        points,
+        corners,
+        neighbours,
+        node,
+        state,
+        list,
+        size,
+        faces,
+        ranks,
+        slots,
+        left.chain,
+    );
+    clear_states(list, size, state);
+    Attempt {
+        refusal: 0,
+        inserted: accepted(mesh, found, chain, left.used),
+    }
+}
+
+// The same, with what it takes for one node alone.
 pub fn insert_node(
     mesh: Mesh,
     points: &mut [u32],
@@ -32,64 +117,34 @@ pub fn insert_node(
     asked: bool,
     q: Position,
 ) -> Attempt
-    requires { ⌜ (isMesh mesh (tablesIn points corners neighbours) work ≡ true) × (handed ≡ true → mesh .cells ≤ length (now answers)) ⌝ }
+    requires { ⌜ (isMesh mesh (tablesIn points corners neighbours) work ≡ true) × (handed ≡ true → mesh .used ≤ length (now answers)) ⌝ }
     ensures { λ r. ⌜ AttemptLeaves asked (now (marks .entry)) mesh (tablesBefore points corners neighbours) work q (answersOf handed (now (answers .entry)))
         r (tablesAfter points corners neighbours) ⌝ }
 {
-    let node = Node {
-        position: q,
-        points: mesh.points as usize,
-        cells: mesh.cells as usize,
-        work: work,
-        handed: handed,
-    };
     let mut state = [0u8; 4096];
     let mut list = [0u16; 4096];
     let mut faces = [0u8; 4096];
-    let mut numbers = [65535u16; 8192]; // for each of 4,096 cells, and a place for none
-    let found = find(
+    let mut denied = [0u16; 4096];
+    let mut exposed = [0u8; 1024];
+    let mut ranks = [0u16; 4096];
+    let mut slots = [0u16; 4096];
+    attempt_node(
         mesh,
         points,
         corners,
         neighbours,
+        work,
         answers,
-        node,
+        handed,
+        marks,
+        asked,
+        q,
         &mut state,
         &mut list,
         &mut faces,
-        &mut numbers,
-    );
-    let refusal = found.refusal;
-    if refusal != 0 {
-        return Attempt {
-            refusal: refusal,
-            inserted: Inserted::Refused(refusal),
-        };
-    }
-    if !marks_allow(asked, node.cells, &state, marks) {
-        return Attempt {
-            refusal: 14,
-            inserted: Inserted::Refused(14),
-        };
-    }
-    let extent = found.extent;
-    let counts = Replaced {
-        removed: extent.after,
-        made: found.made,
-    };
-    replace_cavity(
-        points,
-        corners,
-        neighbours,
-        node,
-        counts,
-        &state,
-        &list,
-        &faces,
-        &mut numbers,
-    );
-    Attempt {
-        refusal: 0,
-        inserted: accepted(mesh, found),
-    }
+        &mut denied,
+        &mut exposed,
+        &mut ranks,
+        &mut slots,
+    )
 }

@@ -22,9 +22,10 @@ pub fn report(mesh: Mesh, found: Found) -> Report
     }
 }
 
-pub fn accepted(mesh: Mesh, found: Found) -> Inserted
-    requires { ⌜ (mesh .points ≤ 1024) × (mesh .cells ≤ 4096) × (found .extent .before ≤ 4096) × (found .extent .after ≤ mesh .cells) × (found .made ≤ 16384) ⌝ }
-    ensures { λ r. ⌜ r ≡ acceptedWith mesh found ⌝ }
+// With this chain and used length after.
+pub fn accepted(mesh: Mesh, found: Found, chain: u16, used: usize) -> Inserted
+    requires { ⌜ (mesh .points ≤ 1024) × (mesh .cells ≤ 4096) × (found .extent .before ≤ 4096) × (found .extent .after ≤ mesh .cells) × (found .made ≤ 16384) × (used ≤ 4096) ⌝ }
+    ensures { λ r. ⌜ r ≡ acceptedWith mesh found chain used ⌝ }
 {
     let extent = found.extent;
     let after = extent.after as u32;
@@ -36,6 +37,8 @@ pub fn accepted(mesh: Mesh, found: Found) -> Inserted
             z: mesh.z,
             points: mesh.points + 1,
             cells: mesh.cells - after + made,
+            chain: chain as u32,
+            used: used as u32,
         },
         report(mesh, found),
     )

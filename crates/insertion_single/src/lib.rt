@@ -43,7 +43,7 @@ pub fn insert(
     attempt.inserted
 }
 
-// Inserts one node by answers handed in, one byte a cell; nonzero is yes.
+// Inserts one node by answers handed in, one byte for each entry in use; nonzero is yes.
 pub fn insert_answers(
     mesh: Mesh,
     points: &mut [u32],
@@ -57,7 +57,7 @@ pub fn insert_answers(
 {
     clear(work);
     let w = work.len();
-    let fewer = answers.len() < mesh.cells as usize;
+    let fewer = answers.len() < mesh.used as usize;
     let refusal = mesh_refusal(mesh, points, corners, neighbours, w, fewer);
     if refusal != 0 {
         return Inserted::Refused(refusal);

@@ -6,8 +6,8 @@ ghost use mathlib.Core.List.{List};
 ghost use lib.ListN.{length};
 ghost use Rattle.mesh.specs.Tables.{tables, tablesIn, tablesBefore};
 ghost use Rattle.locate.specs.Inner.{sideCodes};
-ghost use Rattle.cavity.specs.Inner.{setOf, Inspected};
-ghost use Rattle.star.specs.Inner.{Lookup, Numbered};
+ghost use Rattle.cavity.specs.Inner.{setOf, Enumerated, Inspected};
+ghost use Rattle.star.specs.Inner.{Ranked, Rising};
 ghost use Rattle.insertion.specs.Inner.{someZero, PointTests, starFound};
 use cavity::Extent;
 use cavity::Node;
@@ -17,7 +17,8 @@ use insertion::Found;
 use mesh::Mesh;
 use mesh_sizes::cell_capacity;
 use mesh_sizes::point_capacity;
-use star_numbers::number_cells;
+use star_numbers::rank_cells;
+use star_numbers::sort_cells;
 
 // A point has code 0 just where it lies at the node.
 fn some_zero(codes: &[u8], np: usize) -> bool
@@ -52,7 +53,7 @@ pub fn point_tests(mesh: Mesh, points: &[u32], codes: &[u8], q: Position) -> u8
     0
 }
 
-// Test 8, and the numbers of the cells after the star.
+// Test 8. The cavity's cells are listed by rising numbers, and the new cells ranked by them.
 pub fn star_room(
     points: &[u32],
     corners: &[u16],
@@ -60,16 +61,21 @@ pub fn star_room(
     node: Node,
     extent: Extent,
     state: &[u8],
+    list: &mut [u16],
     faces: &[u8],
-    numbers: &mut [u16],
+    ranks: &mut [u16],
 ) -> Found
-    requires { ⌜ (node .cells ≤ 4096) × (length (now state) ≡ 4096) × (length (now faces) ≡ 4096) × Lookup (now numbers)
-        × Inspected (tablesIn points corners neighbours) (node .cells) (node .position) (setOf (node .cells) (now state)) (now state) (now faces) ⌝ }
-    ensures { λ r. ⌜ (r ≡ starFound (tablesBefore points corners neighbours) node (setOf (node .cells) (now (state .entry))) extent)
-        × Numbered (tablesBefore points corners neighbours) (node .cells) (node .position) (setOf (node .cells) (now (state .entry))) (now (numbers .exit))
-        × Lookup (now (numbers .exit)) ⌝ }
+    requires { ⌜ (node .cells ≤ 4096) × (node .used ≤ 4096) × (length (now faces) ≡ 4096) × (length (now ranks) ≡ 4096)
+        × Enumerated (tablesIn points corners neighbours) (node .used) (now state) (now list) (extent .after)
+        × Inspected (tablesIn points corners neighbours) (node .used) (node .position) (setOf (node .used) (now state)) (now state) (now faces) ⌝ }
+    ensures { λ r. ⌜ (r ≡ starFound (tablesBefore points corners neighbours) node (setOf (node .used) (now (state .entry))) extent)
+        × Enumerated (tablesBefore points corners neighbours) (node .used) (now (state .entry)) (now (list .exit)) (extent .after)
+        × Rising (node .used) (setOf (node .used) (now (state .entry))) (now (list .exit)) (extent .after)
+        × Ranked (tablesBefore points corners neighbours) (node .used) (node .position) (setOf (node .used) (now (state .entry))) (now (ranks .exit)) ⌝ }
 {
-    let made = number_cells(points, corners, neighbours, node, state, faces, numbers);
+    let size = extent.after;
+    sort_cells(list, size);
+    let made = rank_cells(list, size, faces, ranks);
     if cell_capacity(corners.len(), neighbours.len(), node.work) < node.cells + made {
         return Found {
             refusal: 8,

@@ -12,7 +12,7 @@ use lib.Seq.{take-at, length-take-le}
 use Rattle.mesh.specs.declared.Mesh.{Mesh}
 use Rattle.mesh.specs.declared.Started.{Started}
 use Rattle.mesh.specs.declared.Started.the-variants.{Accepted as StartAccepted, Refused as StartRefused}
-use Rattle.mesh.specs.Tables.{Tables, cellCapacity, cleared, corner, across, tables}
+use Rattle.mesh.specs.Tables.{Tables, cellCapacity, cleared, corner, across, freed, tables}
 use Rattle.mesh.specs.Start.{over, startAnswer, startTables, StartLeaves}
 use Rattle.mesh.specs.Inner.{Celled}
 use Rattle.insertion.specs.declared.Listed.{Listed}
@@ -28,16 +28,16 @@ use Rattle.nodefile.specs.Read.{header, nodes, readAnswer, ReadLeaves}
 use Rattle.nodefile.proofs.Answers.{Accepted}
 use Rattle.nodefile.proofs.RoundTrips.{read, nodes-read}
 use Rattle.roundtrip.proofs.StartedList.{claim-after-list, claimed-mesh}
-use Rattle.lines.specs.Listing.{cornerWords, neighbourWords, cellLine, meshText, refusedLine, stoppedLine, listText, nodesText, startText, boxText, readText, room, listing, listingAnswer, listingOutput, ListingLeaves}
-use Rattle.lines.specs.Inner.{put, Wrote, FromStart, cellsListed, longest}
+use Rattle.lines.specs.Listing.{cornerWords, neighbourWords, cellLine, entryText, meshText, refusedLine, stoppedLine, listText, nodesText, startText, boxText, readText, room, listing, listingAnswer, listingOutput, ListingLeaves}
+use Rattle.lines.specs.Inner.{put, Wrote, FromStart, entriesListed, longest}
 use Rattle.lines.proofs.Putting.{same-room, fits-then}
 use Rattle.lines.proofs.Lengths.{mesh-fits, stopped-fits, refused-fits, list-fits}
 
 -- ---- the answer of a list as text
 
-module _ (r : Listed) {cs bs : List ℕ} (C : Celled cs (cellsListed r)) (D : Celled bs (cellsListed r)) where
-  printable : (m : Mesh) {room : ℕ} → cellsListed r ≡ m .cells → longest ≤ room →
-      Celled cs (m .cells) × Celled bs (m .cells) × (length (meshText m (tables [] cs bs)) ≤ room)
+module _ (r : Listed) {cs bs : List ℕ} (C : Celled cs (entriesListed r)) (D : Celled bs (entriesListed r)) where
+  printable : (m : Mesh) {room : ℕ} → entriesListed r ≡ m .used → longest ≤ room →
+      Celled cs (m .used) × Celled bs (m .used) × (length (meshText m (tables [] cs bs)) ≤ room)
   printable m e h = (
     subst (Celled cs) e C,
     subst (Celled bs) e D,
@@ -45,25 +45,25 @@ module _ (r : Listed) {cs bs : List ℕ} (C : Celled cs (cellsListed r)) (D : Ce
   )
 
   module _ {m : Mesh} {k : ℕ} (e : r ≡ Ended m k) where
-    pub ended-printable : {room : ℕ} → longest ≤ room → Celled cs (m .cells) × Celled bs (m .cells) × (length (meshText m (tables [] cs bs)) ≤ room)
-    unfolding cellsListed
-    ended-printable h = printable m (ap cellsListed e) h
+    pub ended-printable : {room : ℕ} → longest ≤ room → Celled cs (m .used) × Celled bs (m .used) × (length (meshText m (tables [] cs bs)) ≤ room)
+    unfolding entriesListed
+    ended-printable h = printable m (ap entriesListed e) h
 
     pub ended-text : meshText m (tables [] cs bs) ≡ listText r (tables [] cs bs)
     unfolding listText
     ended-text = ap (λ r. listText r (tables [] cs bs)) (sym e)
 
   module _ {m : Mesh} {place k : ℕ} (e : r ≡ Stopped m place k) where
-    pub stopped-printable : {room : ℕ} → longest ≤ room → Celled cs (m .cells) × Celled bs (m .cells) × (length (meshText m (tables [] cs bs)) ≤ room)
-    unfolding cellsListed
-    stopped-printable h = printable m (ap cellsListed e) h
+    pub stopped-printable : {room : ℕ} → longest ≤ room → Celled cs (m .used) × Celled bs (m .used) × (length (meshText m (tables [] cs bs)) ≤ room)
+    unfolding entriesListed
+    stopped-printable h = printable m (ap entriesListed e) h
 
     -- the last line has its room
     pub stopped-room : {out out′ : List ℕ} {next : ℕ} → longest ≤ length out → Wrote (meshText m (tables [] cs bs)) out 0 next out′ →
         next + length (stoppedLine place k) ≤ length out′
-    unfolding cellsListed
+    unfolding entriesListed
     stopped-room h W =
-        let q : cellsListed r ≡ m .cells = ap cellsListed e in
+        let q : entriesListed r ≡ m .used = ap entriesListed e in
         let l = stopped-fits m (tables [] cs bs) place k (omega (arith, C .cells-few, q)) in
         fits-then W (stoppedLine place k) (omega arith)
 
@@ -79,23 +79,23 @@ refused-text t e = ap (λ r. listText r t) (sym e)
 
 -- the text does not name the points
 without-points : (r : Listed) (ps cs ns : List ℕ) → listText r (tables [] cs ns) ≡ listText r (tables ps cs ns)
-unfolding listText meshText cellLine cornerWords neighbourWords corner across
+unfolding listText meshText entryText cellLine cornerWords neighbourWords freed corner across
 without-points (Ended m k) ps cs ns = refl
 without-points (Stopped m place k) ps cs ns = refl
 without-points (ListRefused k) ps cs ns = refl
 
-no-cells : (m : Mesh) (r : Listed) → cellsListed r ≤ recordAfterList m r .cells
-unfolding cellsListed recordAfterList
-no-cells m (Ended m′ k) = omega arith
-no-cells m (Stopped m′ place k) = omega arith
-no-cells m (ListRefused k) = omega arith
+no-more-entries : (m : Mesh) (r : Listed) → entriesListed r ≤ recordAfterList m r .used
+unfolding entriesListed recordAfterList
+no-more-entries m (Ended m′ k) = omega arith
+no-more-entries m (Stopped m′ place k) = omega arith
+no-more-entries m (ListRefused k) = omega arith
 
 module _ {m : Mesh} {t : Tables} (S : FromStart m t) {ws ns : List ℕ} {r : Listed} {ps cs bs ws′ : List ℕ} (L : ListLeaves m t ws ns r (tables ps cs bs) ws′) where
-  pub listed-cells : Celled cs (cellsListed r) × Celled bs (cellsListed r)
+  pub listed-entries : Celled cs (entriesListed r) × Celled bs (entriesListed r)
   unfolding cellCapacity
-  listed-cells =
-      let h = claimed-mesh (claim-after-list (S .start) L) .cells≤ in
-      let l = no-cells m r in
+  listed-entries =
+      let h = claimed-mesh (claim-after-list (S .start) L) .mesh .cells≤ in
+      let l = no-more-entries m r in
       (record { cells-few = omega arith; cells-fit = omega arith }, record { cells-few = omega arith; cells-fit = omega arith })
 
   pub listed-text : listText r (tables [] cs bs) ≡ nodesText m t (length ws) ns
@@ -169,7 +169,7 @@ nodes-fit {m} {t} S w ns =
     let ws : List ℕ = replicate w 0 in
     let r = listCall m t (length ws) ns in
     let L : ListLeaves m t ws ns (r .answer) (r .tables) (cleared ws) = record { answer = refl; tables = refl; work = refl } in
-    let h = list-fits (r .answer) (r .tables) (listed-cells S L .0 .cells-few) in
+    let h = list-fits (r .answer) (r .tables) (listed-entries S L .0 .cells-few) in
     subst (λ w. length (nodesText m t w ns) ≤ longest) (length-replicate w 0) h
 
 start-fits : (X Y Z : ℕ) (t : Tables) (w : ℕ) (ns : List ℕ) → length (boxText X Y Z t w ns) ≤ longest

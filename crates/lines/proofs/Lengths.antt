@@ -6,12 +6,12 @@ use native.Mathlib.Omega.{arith}
 use lib.Dec.{eqb, ltb}
 use lib.ListN.{length, length-append}
 use Rattle.mesh.specs.declared.Mesh.{Mesh}
-use Rattle.mesh.specs.Tables.{Tables, none, corner, across}
+use Rattle.mesh.specs.Tables.{Tables, none, corner, across, freed}
 use Rattle.insertion.specs.declared.Listed.{Listed}
 use Rattle.insertion.specs.declared.Listed.the-variants.{Ended, Stopped, Refused}
 use Rattle.lines.specs.Text.{concatBelow, digit, decimal, space}
-use Rattle.lines.specs.Listing.{boxLine, neighbourWord, cornerWords, neighbourWords, cellLine, meshText, refusedLine, stoppedLine, listText}
-use Rattle.lines.specs.Inner.{cellsListed, longest}
+use Rattle.lines.specs.Listing.{boxLine, neighbourWord, cornerWords, neighbourWords, cellLine, entryText, meshText, refusedLine, stoppedLine, listText}
+use Rattle.lines.specs.Inner.{entriesListed, longest}
 
 either : (b : Bool) (x y : List ℕ) (k : ℕ) → length x ≤ k → length y ≤ k → length (cond b x y) ≤ k
 either true x y k h l = h
@@ -41,6 +41,10 @@ cell-at-most t c =
     let b = concat-at-most (λ i. neighbourWord (across t (4 * c + i))) 11 (λ i. neighbour-at-most (across t (4 * c + i))) 4 in
     simp length-append (omega (arith, decimal-at-most c))
 
+entry-at-most : (t : Tables) (c : ℕ) → length (entryText t c) ≤ 99
+unfolding entryText
+entry-at-most t c = either (freed t c) [] (cellLine t c) 99 (omega arith) (cell-at-most t c)
+
 box-at-most : (m : Mesh) → length (boxLine m) ≤ 72
 unfolding boxLine
 box-at-most m =
@@ -51,19 +55,19 @@ stopped-at-most : (place e : ℕ) → length (stoppedLine place e) ≤ 30
 unfolding stoppedLine
 stopped-at-most place e = simp length-append (omega (arith, decimal-at-most place, decimal-at-most e))
 
-pub mesh-fits : (m : Mesh) (t : Tables) → m .cells ≤ 4096 → length (meshText m t) + 30 ≤ longest
+pub mesh-fits : (m : Mesh) (t : Tables) → m .used ≤ 4096 → length (meshText m t) + 30 ≤ longest
 unfolding meshText
-mesh-fits m t h = omega (arith, length-append (boxLine m) (concatBelow (m .cells) (cellLine t)), box-at-most m, concat-at-most (cellLine t) 99 (cell-at-most t) (m .cells))
+mesh-fits m t h = omega (arith, length-append (boxLine m) (concatBelow (m .used) (entryText t)), box-at-most m, concat-at-most (entryText t) 99 (entry-at-most t) (m .used))
 
-pub stopped-fits : (m : Mesh) (t : Tables) (place e : ℕ) → m .cells ≤ 4096 → length (meshText m t ++ stoppedLine place e) ≤ longest
+pub stopped-fits : (m : Mesh) (t : Tables) (place e : ℕ) → m .used ≤ 4096 → length (meshText m t ++ stoppedLine place e) ≤ longest
 stopped-fits m t place e h = omega (arith, length-append (meshText m t) (stoppedLine place e), mesh-fits m t h, stopped-at-most place e)
 
 pub refused-fits : (e : ℕ) → length (refusedLine e) ≤ longest
 unfolding refusedLine
 refused-fits e = simp length-append (omega (arith, decimal-at-most e))
 
-pub list-fits : (r : Listed) (t : Tables) → cellsListed r ≤ 4096 → length (listText r t) ≤ longest
-unfolding listText cellsListed
+pub list-fits : (r : Listed) (t : Tables) → entriesListed r ≤ 4096 → length (listText r t) ≤ longest
+unfolding listText entriesListed
 list-fits (Ended m k) t h = omega (arith, mesh-fits m t h)
 list-fits (Stopped m place e) t h = stopped-fits m t place e h
 list-fits (Refused e) t h = refused-fits e

@@ -1,6 +1,6 @@
 -- Text written piece by piece.
 use Prim.Native.Nat.{ℕ, zero, suc, _+_, _/_, _%_, _^_, _≤_, _<_}
-use mathlib.Core.Bool.{Bool, true, false, _||_}
+use mathlib.Core.Bool.{Bool, true, false, _||_, cond}
 use mathlib.Core.List.{List, [], _∷_, _++_, append-assoc}
 use mathlib.Core.Path.{_≡_, refl, sym, ap, _∙_, subst}
 use native.Mathlib.Omega.{arith}
@@ -10,7 +10,9 @@ use native.Mathlib.Nat.{add-zero}
 use lib.Dec.{eqb, ltb}
 use lib.ListN.{length, set, take, drop, length-append, length-take, length-drop, take-append-drop}
 use lib.Seq.{take-at, drop-at, drop-drop, set-split, length-take-le, take-length, paste}
+use Rattle.mesh.specs.Tables.{Tables, freed}
 use Rattle.lines.specs.Text.{concatBelow, digit}
+use Rattle.lines.specs.Listing.{cellLine, entryText}
 use Rattle.lines.specs.Inner.{put, Wrote}
 
 module _ {s out out′ : List ℕ} {at r : ℕ} (W : Wrote s out at r out′) where
@@ -152,3 +154,18 @@ module _ (k p q : ℕ) (e : q ≡ 10 ^ p) {b : Bool} (d : b ≡ (eqb p 0 || ltb 
 
     pub digit-shown : b ≡ true → at + length (digit k p) ≤ length out → Wrote (digit k p) out at (at + 1) (set out at (48 + k / q % 10))
     digit-shown h l = subst (λ s. Wrote s out at (at + 1) (set out at (48 + k / q % 10))) (shown h) (wrote-byte out at (48 + k / q % 10) (digit-fits h l))
+
+-- ---- an entry of the tables
+
+module _ (t : Tables) (c : ℕ) (out : List ℕ) (at : ℕ) where
+  pub entry-none : freed t c ≡ true → at + length (entryText t c) ≤ length out → Wrote (entryText t c) out at at out
+  unfolding entryText
+  entry-none e h = rw e (wrote-none out at (omega (arith, h, ap (λ b. at + length (cond b [] (cellLine t c))) e)))
+
+  pub entry-line : freed t c ≡ false → {r : ℕ} {out′ : List ℕ} → Wrote (cellLine t c) out at r out′ → Wrote (entryText t c) out at r out′
+  unfolding entryText
+  entry-line e W = rw e W
+
+pub entry-room : (t : Tables) (c at room : ℕ) → freed t c ≡ false → at + length (entryText t c) ≤ room → at + length (cellLine t c) ≤ room
+unfolding entryText
+entry-room t c at room e h = omega (arith, h, ap (λ b. at + length (cond b [] (cellLine t c))) e)

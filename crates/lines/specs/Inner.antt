@@ -30,11 +30,11 @@ pub record FromStart (m : Mesh) (t : Tables) : Type 0 where
   pub work′ : List ℕ
   pub start : StartLeaves X Y Z before work (Accepted m) t work′
 
--- the cells that the text of a list's answer names
-unfoldable pub cellsListed : Listed → ℕ
-cellsListed (Ended m k) = m .cells
-cellsListed (Stopped m place e) = m .cells
-cellsListed (Refused e) = 0
+-- the entries in use that the text of a list's answer goes over
+unfoldable pub entriesListed : Listed → ℕ
+entriesListed (Ended m k) = m .used
+entriesListed (Stopped m place e) = m .used
+entriesListed (Refused e) = 0
 
 -- as many bytes as a listing can take: 100 a line
 abbrev pub longest : ℕ

@@ -8,7 +8,7 @@ use lib.ListN.{length, replicate}
 use Rattle.mesh.specs.declared.Mesh.{Mesh}
 use Rattle.mesh.specs.declared.Started.{Started}
 use Rattle.mesh.specs.declared.Started.the-variants.{Accepted, Refused as StartRefused}
-use Rattle.mesh.specs.Tables.{Tables, none, corner, across}
+use Rattle.mesh.specs.Tables.{Tables, none, corner, across, freed}
 use Rattle.mesh.specs.Start.{over, startAnswer, startTables}
 use Rattle.insertion.specs.declared.Listed.{Listed}
 use Rattle.insertion.specs.declared.Listed.the-variants.{Ended, Stopped, Refused as ListRefused}
@@ -56,8 +56,12 @@ neighbourWords t c = concatBelow 4 (λ i. neighbourWord (across t (4 * c + i)))
 unfoldable pub cellLine : Tables → ℕ → List ℕ
 cellLine t c = decimal c ++ cornerWords t c ++ neighbourWords t c ++ lineEnd
 
+-- 'Listings leave freed entries out and go by rising number' (document 02 §11)
+unfoldable pub entryText : Tables → ℕ → List ℕ
+entryText t c = cond (freed t c) [] (cellLine t c)
+
 unfoldable pub meshText : Mesh → Tables → List ℕ
-meshText m t = boxLine m ++ concatBelow (m .cells) (cellLine t)
+meshText m t = boxLine m ++ concatBelow (m .used) (entryText t)
 
 -- 'A refused file or box prints only refused and the number.'
 unfoldable pub refusedLine : ℕ → List ℕ

@@ -6,11 +6,13 @@ ghost use lib.ListN.{length};
 ghost use Rattle.mesh.specs.Tables.{tables};
 ghost use Rattle.mesh.specs.Inner.{HasCell, Celled};
 ghost use Rattle.lines.specs.Text.{concatBelow};
-ghost use Rattle.lines.specs.Listing.{neighbourWord, cornerWords, neighbourWords, cellLine};
+ghost use Rattle.lines.specs.Listing.{neighbourWord, cornerWords, neighbourWords, cellLine, entryText};
 ghost use Rattle.lines.specs.Inner.{Wrote};
 use lines_text::write_bytes;
 use lines_text::write_decimal;
 use lines_text::write_number;
+use mesh_tables::four_at;
+use mesh_tables::is_freed;
 
 fn write_corners(corners: &[u16], cell: usize, out: &mut [u8], at: usize) -> usize
     requires { ⌜ HasCell cell (now corners) × (at + length (cornerWords (tables [] (now corners) []) cell) ≤ length (now out)) ⌝ }
@@ -62,21 +64,34 @@ fn write_cell(corners: &[u16], neighbours: &[u16], cell: usize, out: &mut [u8], 
     write_bytes(b"\n", out, fourth)
 }
 
+// A freed entry has no line.
+fn write_entry(corners: &[u16], neighbours: &[u16], c: usize, out: &mut [u8], at: usize) -> usize
+    requires { ⌜ HasCell c (now corners) × HasCell c (now neighbours)
+        × (at + length (entryText (tables [] (now corners) (now neighbours)) c) ≤ length (now out)) ⌝ }
+    ensures { λ r. ⌜ Wrote (entryText (tables [] (now (corners .entry)) (now (neighbours .entry))) c) (now (out .entry)) at r (now (out .exit)) ⌝ }
+{
+    if is_freed(four_at(corners, c)) {
+        return at;
+    }
+    write_cell(corners, neighbours, c, out, at)
+}
+
+// The cells among the first `used` entries, by rising number.
 pub fn write_cells(
     corners: &[u16],
     neighbours: &[u16],
-    cells: usize,
+    used: usize,
     out: &mut [u8],
     at: usize,
 ) -> usize
-    requires { ⌜ Celled (now corners) cells × Celled (now neighbours) cells
-        × (at + length (concatBelow cells (cellLine (tables [] (now corners) (now neighbours)))) ≤ length (now out)) ⌝ }
-    ensures { λ r. ⌜ Wrote (concatBelow cells (cellLine (tables [] (now (corners .entry)) (now (neighbours .entry))))) (now (out .entry)) at r (now (out .exit)) ⌝ }
+    requires { ⌜ Celled (now corners) used × Celled (now neighbours) used
+        × (at + length (concatBelow used (entryText (tables [] (now corners) (now neighbours)))) ≤ length (now out)) ⌝ }
+    ensures { λ r. ⌜ Wrote (concatBelow used (entryText (tables [] (now (corners .entry)) (now (neighbours .entry))))) (now (out .entry)) at r (now (out .exit)) ⌝ }
 {
     let mut next = at;
     let mut c: usize = 0;
-    while c < cells {
-        next = write_cell(corners, neighbours, c, out, next);
+    while c < used {
+        next = write_entry(corners, neighbours, c, out, next);
         c += 1;
     }
     next

@@ -6,7 +6,7 @@ ghost use lib.ListN.{length};
 ghost use Rattle.mesh.specs.Tables.{tables};
 ghost use Rattle.mesh.specs.Inner.{Celled};
 ghost use Rattle.lines.specs.Listing.{refusedLine, stoppedLine, listText};
-ghost use Rattle.lines.specs.Inner.{Wrote, cellsListed, longest};
+ghost use Rattle.lines.specs.Inner.{Wrote, entriesListed, longest};
 use insertion::Listed;
 use lines_mesh::write_mesh;
 use lines_text::write_bytes;
@@ -31,7 +31,7 @@ fn write_stopped(place: u32, number: u8, out: &mut [u8], at: usize) -> usize
 
 // What a list of nodes leaves: the mesh, with a last line where it stopped; or a refusal.
 pub fn write_listed(answer: Listed, corners: &[u16], neighbours: &[u16], out: &mut [u8]) -> usize
-    requires { ⌜ Celled (now corners) (cellsListed answer) × Celled (now neighbours) (cellsListed answer) × (longest ≤ length (now out)) ⌝ }
+    requires { ⌜ Celled (now corners) (entriesListed answer) × Celled (now neighbours) (entriesListed answer) × (longest ≤ length (now out)) ⌝ }
     ensures { λ r. ⌜ Wrote (listText answer (tables [] (now (corners .entry)) (now (neighbours .entry)))) (now (out .entry)) 0 r (now (out .exit)) ⌝ }
 {
     match answer {

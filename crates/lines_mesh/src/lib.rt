@@ -26,11 +26,11 @@ fn write_box(mesh: Mesh, out: &mut [u8], at: usize) -> usize
 
 // The sides and counts, then a line a cell.
 pub fn write_mesh(mesh: Mesh, corners: &[u16], neighbours: &[u16], out: &mut [u8]) -> usize
-    requires { ⌜ Celled (now corners) (mesh .cells) × Celled (now neighbours) (mesh .cells)
+    requires { ⌜ Celled (now corners) (mesh .used) × Celled (now neighbours) (mesh .used)
         × (length (meshText mesh (tables [] (now corners) (now neighbours))) ≤ length (now out)) ⌝ }
     ensures { λ r. ⌜ Wrote (meshText mesh (tables [] (now (corners .entry)) (now (neighbours .entry)))) (now (out .entry)) 0 r (now (out .exit)) ⌝ }
 {
     let next = write_box(mesh, out, 0);
-    let cells = mesh.cells as usize;
-    write_cells(corners, neighbours, cells, out, next)
+    let used = mesh.used as usize;
+    write_cells(corners, neighbours, used, out, next)
 }

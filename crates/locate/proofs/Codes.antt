@@ -1,12 +1,12 @@
--- Side codes: a cell whose corners share a bit lies beyond the position on one side of an axis, and does not hold it.
+-- Side codes: a cell whose corners share a bit lies beyond the position on one side of an axis, and does not hold it; nor does a freed entry.
 use Prim.Native.Nat.{ℕ, zero, suc, _+_, _*_, _-_, _/_, _%_, _^_, _≤_, _<_, min}
-use mathlib.Core.Bool.{Bool, true, false, _&&_, cond, and-true, _||_}
-use mathlib.Core.List.{List}
+use mathlib.Core.Bool.{Bool, true, false, not, _&&_, cond, and-true, _||_}
+use mathlib.Core.List.{List, []}
 use mathlib.Core.Logic.{_≢_, _⊎_, inl, inr}
 use mathlib.Core.Path.{_≡_, refl, sym, ap, ap₂, _∙_, subst}
 use native.Mathlib.Omega.{arith}
 use native.Mathlib.Decide.{ℕ-discrete}
-use borrow.Author.Tests.{ltb-true, eqb-true, lt-ltb, eq-eqb, ne-eqb}
+use borrow.Author.Tests.{ltb-true, eqb-true, eqb-false, lt-ltb, eq-eqb, ne-eqb, not-true}
 use lib.Dec.{ltb, eqb}
 use lib.Bits.{bitAnd, and-shr, and-mod, and-le-l}
 use lib.ListN.{length, getD, set}
@@ -14,7 +14,7 @@ use lib.IntN.{pos, _*ℤ_}
 use lib.Signed.{_<ℤ_, _≤ℤ_, leZ, ltZ}
 use mir.Val.{boolByte}
 use Rattle.arith.specs.Table.{tabulate, allBelow, anyBelow, sum}
-use Rattle.arith.proofs.Flags.{split, fails, bool-ext, or-cases, below-four, below-six}
+use Rattle.arith.proofs.Flags.{split, fails, and-left, bool-ext, or-cases, below-four, below-six}
 use Rattle.arith.proofs.Order.{arithℤ, total, leZ-true, ltZ-yes-leZ, ltZ-no-leZ, ≤-<-trans, <-irrefl, *-mono-≤-l, *-mono-<-l}
 use Rattle.arith.proofs.Sums.{sum-mono, sum-times}
 use Rattle.arith.proofs.Tables.{tabulate-at, tabulate-length, set-tabulate, all-cong, all-at, any-found, Found, find}
@@ -24,14 +24,15 @@ use Rattle.geometry.specs.Volume.{InRange, volume, replaced}
 use Rattle.geometry.specs.Inner.{volumesAt}
 use Rattle.geometry.proofs.Algebra.{volume-cong, volume-split}
 use Rattle.geometry.proofs.ReadBack.{held-volume}
-use Rattle.mesh.specs.Tables.{Tables, pointIn, cornerAt, side, tables}
+use Rattle.mesh.specs.Tables.{Tables, none, pointIn, corner, cornerAt, side, freed, live, IsCell, tables}
 use Rattle.mesh.specs.Mesh.{Wall, low-x, low-y, low-z, along}
 use Rattle.mesh.specs.Inner.{fourAt, positionsOf, Cornered, Solid}
 use Rattle.mesh.proofs.Corners.{placed-cornered}
 use Rattle.mesh.proofs.FaceNumbers.{face-cell, face-opposite}
 use Rattle.mesh.proofs.Numbers.{byte≤, four-entry, four-corner, four-volume}
 use Rattle.mesh.proofs.Held.{cramer}
-use Rattle.locate.specs.Inner.{axisCode, sideCode, sideCodes, sharedBits, volumeAt, noneNegative, holdsFour, Coded}
+use Rattle.mesh.proofs.Live.{live-of}
+use Rattle.locate.specs.Inner.{axisCode, sideCode, sideCodes, sharedBits, mayHold, volumeAt, noneNegative, holdsFour, Coded}
 use Rattle.locate.specs.Locate.{holds}
 
 -- ---- a cell that holds q has q in its bounding box
@@ -268,20 +269,29 @@ side-of-four ps cs ns c i q h =
     t : Tables
     t = tables ps cs ns
 
-pub holds-is : (ps cs ns : List ℕ) (c : ℕ) (q : Position) {k : List ℕ} → k ≡ fourAt cs c → holdsFour ps k q ≡ holds (tables ps cs ns) q c
+pub holds-is : (ps cs ns : List ℕ) (c : ℕ) (q : Position) → live (tables ps cs ns) c ≡ true → {k : List ℕ} → k ≡ fourAt cs c → holdsFour ps k q ≡ holds (tables ps cs ns) q c
 unfolding holdsFour holds
-holds-is ps cs ns c q ek =
+holds-is ps cs ns c q a ek =
     ap (λ k. holdsFour ps k q) ek ∙
-    all-cong 4 (λ i. leZ (pos 0) (volume (replaced (λ j. pointIn ps (getD (fourAt cs c) j 0)) i q))) (λ i. leZ (pos 0) (side (tables ps cs ns) q (4 * c + i)))
-    (λ i h. ap (leZ (pos 0)) (side-of-four ps cs ns c i q h))
+    (all-cong 4 (λ i. leZ (pos 0) (volume (replaced (λ j. pointIn ps (getD (fourAt cs c) j 0)) i q))) (λ i. leZ (pos 0) (side (tables ps cs ns) q (4 * c + i)))
+    (λ i h. ap (leZ (pos 0)) (side-of-four ps cs ns c i q h)) ∙
+    sym (ap (λ b. b && allBelow 4 (λ i. leZ (pos 0) (side (tables ps cs ns) q (4 * c + i)))) a))
 
--- ---- a cell of solid tables
+-- what holds a position is a cell
+pub holds-live : (t : Tables) (p : Position) (c : ℕ) → holds t p c ≡ true → live t c ≡ true
+unfolding holds
+holds-live t p c e = and-left (live t c) _ e
 
-module _ (ps cs : List ℕ) (np n : ℕ) (q : Position) (S : Solid ps cs np n) (c : ℕ) (c< : c < n) where
+pub holder-cell : (t : Tables) (p : Position) {n c : ℕ} → c < n → holds t p c ≡ true → IsCell t n c
+holder-cell t p {n} {c} h e = record { below = h; lives = holds-live t p c e }
+
+-- ---- an entry of solid tables
+
+module _ (ps cs : List ℕ) (np n : ℕ) (q : Position) (S : Solid ps cs np n) (c : ℕ) (c< : IsCell (tables [] cs []) n c) where
   corner< : (i : ℕ) → i < 4 → getD (fourAt cs c) i 0 < np
-  corner< i h = subst (λ m. m < np) (sym (four-entry cs c i h)) (S .below (4 * c + i) (omega arith))
+  corner< i h = subst (λ m. m < np) (sym (four-entry cs c i h)) (S .below c i c< h)
 
-  pub coded : {codes k : List ℕ} → codes ≡ sideCodes ps np q → k ≡ fourAt cs c → Coded ps codes k q
+  coded : {codes k : List ℕ} → codes ≡ sideCodes ps np q → k ≡ fourAt cs c → Coded ps codes k q
   coded {codes} ec ek =
       subst (λ k. Coded ps codes k q) (sym ek) (subst (λ codes. Coded ps codes (fourAt cs c) q) (sym ec)
       record {
@@ -292,6 +302,47 @@ module _ (ps cs : List ℕ) (np n : ℕ) (q : Position) (S : Solid ps cs np n) (
       })
 
   -- its corners share a bit
-  pub ruled-out : (ns : List ℕ) {codes k : List ℕ} → codes ≡ sideCodes ps np q → k ≡ fourAt cs c → sharedBits codes k ≢ 0 →
+  ruled-out : (ns : List ℕ) {codes k : List ℕ} → codes ≡ sideCodes ps np q → k ≡ fourAt cs c → sharedBits codes k ≢ 0 →
       holds (tables ps cs ns) q c ≡ false
-  ruled-out ns ec ek d = sym (holds-is ps cs ns c q ek) ∙ apart ps _ _ q (coded ec ek) d
+  unfolding live freed corner
+  ruled-out ns ec ek d = sym (holds-is ps cs ns c q (c< .lives) ek) ∙ apart ps _ _ q (coded ec ek) d
+
+-- what the first corner of an entry tells: a cell's points are few, so 65,535 is that of a freed entry alone
+entry-cell : (ps cs ns : List ℕ) {n c : ℕ} → c < n → getD (fourAt cs c) 0 0 ≢ none → IsCell (tables ps cs ns) n c
+entry-cell ps cs ns {n} {c} h d =
+    record { below = h; lives = live-of (tables ps cs ns) c 0 (omega arith) (λ e. d (four-corner (tables ps cs ns) c 0 (omega arith) ∙ e)) }
+
+module _ (ps cs : List ℕ) (np n : ℕ) (q : Position) (S : Solid ps cs np n) (c : ℕ) (c< : c < n) where
+  entry-freed : (ns : List ℕ) → getD (fourAt cs c) 0 0 ≡ none → live (tables ps cs ns) c ≡ false
+  unfolding live freed corner
+  entry-freed ns e = fails (live (tables ps cs ns) c) (λ l. by (corner< ps cs np n q S c record { below = c<; lives = l } 0 (omega arith)))
+    where
+      by : getD (fourAt cs c) 0 0 < np → ⊥
+      by h = omega (arith, e, S .placed .points-few)
+
+  module _ {codes k : List ℕ} (ec : codes ≡ sideCodes ps np q) (ek : k ≡ fourAt cs c) where
+    first-is : getD k 0 0 ≡ getD (fourAt cs c) 0 0
+    first-is = ap (λ k. getD k 0 0) ek
+
+    pub codes-there : getD k 0 0 ≢ none → (i : ℕ) → i < 4 → getD k i 0 < length codes
+    codes-there d = coded ps cs np n q S c (entry-cell [] cs [] c< (λ z. d (first-is ∙ z))) ec ek .code<
+
+    first-corner : mayHold codes k ≡ true → getD (fourAt cs c) 0 0 ≢ none
+    unfolding mayHold
+    first-corner e z = eqb-false (getD k 0 0) none (not-true (eqb (getD k 0 0) none) (and-left _ _ e)) (first-is ∙ z)
+
+    pub may-hold-cell : (ns : List ℕ) → mayHold codes k ≡ true → IsCell (tables ps cs ns) n c
+    may-hold-cell ns e = entry-cell ps cs ns c< (first-corner e)
+
+    pub may-hold-coded : mayHold codes k ≡ true → Coded ps codes k q
+    may-hold-coded e = coded ps cs np n q S c (entry-cell [] cs [] c< (first-corner e)) ec ek
+
+    pub may-not-hold : (ns : List ℕ) → mayHold codes k ≡ false → holds (tables ps cs ns) q c ≡ false
+    unfolding mayHold holds
+    may-not-hold ns e = go (ℕ-discrete (getD k 0 0) none)
+      where
+        go : Dec (getD k 0 0 ≡ none) → holds (tables ps cs ns) q c ≡ false
+        go (yes z) = rw (entry-freed ns (sym first-is ∙ z))
+        go (no d) =
+            ruled-out ps cs np n q S c (entry-cell [] cs [] c< (λ z. d (first-is ∙ z))) ns ec ek
+            (eqb-false (sharedBits codes k) 0 (sym (ap (λ b. not b && eqb (sharedBits codes k) 0) (ne-eqb (getD k 0 0) none d)) ∙ e))

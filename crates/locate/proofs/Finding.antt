@@ -27,26 +27,26 @@ module _ (m : Mesh) (t : Tables) (w : ℕ) where
     unfolding locateCall locateRefusal
     outside e b = rw (e, b)
 
-    -- what is found is the cell count just where no cell holds q
-    none-held : firstHolder t (m .cells) q ≡ m .cells → anyBelow (m .cells) (holds t q) ≡ false
-    none-held e = fails (anyBelow (m .cells) (holds t q)) (λ h. by (any-found (m .cells) (holds t q) h))
+    -- what is found is the used length just where no cell holds q
+    none-held : firstHolder t (m .used) q ≡ m .used → anyBelow (m .used) (holds t q) ≡ false
+    none-held e = fails (anyBelow (m .used) (holds t q)) (λ h. by (any-found (m .used) (holds t q) h))
       where
-        by : Found (m .cells) (holds t q) → ⊥
-        by r = let l = holder-is-first t q (m .cells) (r .at) (r .below) (r .passes) .cell< in absurd (omega (arith, l, e))
+        by : Found (m .used) (holds t q) → ⊥
+        by r = let l = holder-is-first t q (m .used) (r .at) (r .below) (r .passes) .cell< in absurd (omega (arith, l, e))
 
-    some-held : firstHolder t (m .cells) q ≢ m .cells → anyBelow (m .cells) (holds t q) ≡ true
-    some-held d = go (first-or-none t q (m .cells))
+    some-held : firstHolder t (m .used) q ≢ m .used → anyBelow (m .used) (holds t q) ≡ true
+    some-held d = go (first-or-none t q (m .used))
       where
-        go : ((b : ℕ) × IsFirst t q (m .cells) b) ⊎ NoneHolds t q (m .cells) → anyBelow (m .cells) (holds t q) ≡ true
-        go (inl (b, l)) = any-intro (m .cells) (holds t q) b (l .cell<) (l .holding)
-        go (inr none) = absurd (d (none-is t q (m .cells) none))
+        go : ((b : ℕ) × IsFirst t q (m .used) b) ⊎ NoneHolds t q (m .used) → anyBelow (m .used) (holds t q) ≡ true
+        go (inl (b, l)) = any-intro (m .used) (holds t q) b (l .cell<) (l .holding)
+        go (inr none) = absurd (d (none-is t q (m .used) none))
 
-    pub unheld : meshRefusal m t w false ≡ 0 → inBox (m .x) (m .y) (m .z) q ≡ true → {n : ℕ} → n ≡ firstHolder t (m .cells) q → n ≡ m .cells →
+    pub unheld : meshRefusal m t w false ≡ 0 → inBox (m .x) (m .y) (m .z) q ≡ true → {n : ℕ} → n ≡ firstHolder t (m .used) q → n ≡ m .used →
         Refused 7 ≡ locateCall m t w q
     unfolding locateCall locateRefusal
     unheld e b f h = rw (e, b, none-held (sym f ∙ h))
 
-    pub found : meshRefusal m t w false ≡ 0 → inBox (m .x) (m .y) (m .z) q ≡ true → {n : ℕ} → n ≡ firstHolder t (m .cells) q → n ≢ m .cells →
+    pub found : meshRefusal m t w false ≡ 0 → inBox (m .x) (m .y) (m .z) q ≡ true → {n : ℕ} → n ≡ firstHolder t (m .used) q → n ≢ m .used →
         Cell n ≡ locateCall m t w q
     unfolding locateCall locateRefusal
     found e b f d = rw (e, b, some-held (λ h. d (f ∙ h))) (ap Cell f)

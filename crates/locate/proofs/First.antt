@@ -1,5 +1,5 @@
 -- The cell that comes first of those that hold a position, found cell by cell; the order of keys is that of sorted corners.
-use Prim.Native.Nat.{ℕ, zero, suc, _+_, _*_, _≤_, _<_}
+use Prim.Native.Nat.{ℕ, zero, suc, _+_, _≤_, _<_}
 use mathlib.Core.Bool.{Bool, true, false, not, _&&_, cond}
 use mathlib.Core.Logic.{_⊎_, inl, inr}
 use mathlib.Core.Path.{_≡_, refl, sym, ap, ap₂, _∙_, subst}
@@ -12,13 +12,15 @@ use Rattle.arith.specs.Table.{fill, tabulate, anyBelow}
 use Rattle.arith.proofs.Flags.{split, clash, and-left, and-right, and-intro, below-four, fails}
 use Rattle.arith.proofs.Tables.{Found, any-found, any-intro, below-more, first-is, first-none, first≤, tabulate-cong}
 use Rattle.geometry.specs.declared.Position.{Position}
-use Rattle.mesh.specs.Tables.{Tables, corner, tables}
+use Rattle.mesh.specs.Tables.{Tables, corner, IsCell, tables}
 use Rattle.mesh.specs.Inner.{fourAt, Solid}
+use Rattle.mesh.proofs.Live.{cell-same}
 use Rattle.mesh.proofs.Numbers.{four-corner}
 use Rattle.locate.specs.declared.Candidate.{Candidate}
 use Rattle.locate.specs.Order.{insertSorted, sorted, lexBefore}
 use Rattle.locate.specs.Locate.{holds, sortedCorners, earlierHolder, firstHolder}
 use Rattle.locate.specs.Inner.{digits, aboveKeys, keyOf, earlier}
+use Rattle.locate.proofs.Codes.{holder-cell}
 use Rattle.locate.proofs.Order.{before-irrefl, before-trans, before-later, AtMost, sorted-mono, Has, sorted-has, Four, four, Small, digits-order, digits<}
 
 -- ---- sorted corners
@@ -177,15 +179,15 @@ module _ (t : Tables) (p : Position) where
 abbrev cellKey : Tables → ℕ → ℕ
 cellKey t c = digits (sortedCorners t c)
 
-module _ (t : Tables) (n : ℕ) (small : (c i : ℕ) → c < n → i < 4 → corner t c i < 1024) where
-  small-corners : (c : ℕ) → c < n → Small (sortedCorners t c)
+module _ (t : Tables) (n : ℕ) (small : (c i : ℕ) → IsCell t n c → i < 4 → corner t c i < 1024) where
+  small-corners : (c : ℕ) → IsCell t n c → Small (sortedCorners t c)
   small-corners c l v h = let j = have-corners t c v h in omega (arith, small c (j .0) l (j .1), j .2)
 
   -- THE ORDER OF KEYS IS THAT OF SORTED CORNERS
-  key-order : (c d : ℕ) → c < n → d < n → lexBefore (sortedCorners t c) (sortedCorners t d) ≡ ltb (cellKey t c) (cellKey t d)
+  key-order : (c d : ℕ) → IsCell t n c → IsCell t n d → lexBefore (sortedCorners t c) (sortedCorners t d) ≡ ltb (cellKey t c) (cellKey t d)
   key-order c d lc ld = digits-order (corners-four t c) (corners-four t d) (small-corners c lc) (small-corners d ld)
 
-  key< : (c : ℕ) → c < n → cellKey t c < aboveKeys
+  key< : (c : ℕ) → IsCell t n c → cellKey t c < aboveKeys
   key< c l = digits< (corners-four t c) (small-corners c l)
 
 -- ---- the candidate
@@ -219,9 +221,9 @@ module _ (ps cs : List ℕ) (np n : ℕ) (S : Solid ps cs np n) (c : ℕ) (c< : 
   abbrev t : Tables
   t = tables ps cs []
 
-  small : (c i : ℕ) → c < n → i < 4 → corner t c i < 1024
+  small : (c i : ℕ) → IsCell t n c → i < 4 → corner t c i < 1024
   unfolding corner
-  small c i l h = omega (arith, S .below (4 * c + i) (omega arith), S .placed .points-few)
+  small c i l h = omega (arith, S .below c i (cell-same (λ i l. refl) l) h, S .placed .points-few)
 
   key-is : keyOf k ≡ cellKey t c
   unfolding keyOf sortedCorners
@@ -231,13 +233,19 @@ module _ (ps cs : List ℕ) (np n : ℕ) (S : Solid ps cs np n) (c : ℕ) (c< : 
   unfolding earlier
   candidate-earlier p {b} l e = go l (split (ltb (keyOf k) (b .key)))
     where
+      cell : IsCell t n c
+      cell = holder-cell t p c< e
+
+      first-cell : IsFirst t p c (b .cell) → IsCell t n (b .cell)
+      first-cell l = holder-cell t p (omega (arith, l .cell<)) (l .holding)
+
       -- the cell comes before the candidate just where its key is lower
-      by-key : {y : Bool} → b .cell < n → b .key ≡ cellKey t (b .cell) → ltb (keyOf k) (b .key) ≡ y → lexBefore (sortedCorners t c) (sortedCorners t (b .cell)) ≡ y
-      by-key h q f = key-order t n small c (b .cell) c< h ∙ (ap₂ ltb (sym key-is) (sym q) ∙ f)
+      by-key : {y : Bool} → IsCell t n (b .cell) → b .key ≡ cellKey t (b .cell) → ltb (keyOf k) (b .key) ≡ y → lexBefore (sortedCorners t c) (sortedCorners t (b .cell)) ≡ y
+      by-key h q f = key-order t n small c (b .cell) cell h ∙ (ap₂ ltb (sym key-is) (sym q) ∙ f)
 
       go : CandidateAfter t p n c b → (ltb (keyOf k) (b .key) ≡ true) ⊎ (ltb (keyOf k) (b .key) ≡ false) →
           CandidateAfter t p n (c + 1) (cond (ltb (keyOf k) (b .key)) record { cell = c; key = keyOf k } b)
-      go (inl (l, q)) (inl f) = rw f (inl (first-before t p c (b .cell) l e (by-key (omega (arith, l .cell<)) q f), key-is))
-      go (inl (l, q)) (inr f) = rw f (inl (first-more t p c (b .cell) l (λ h. by-key (omega (arith, l .cell<)) q f), q))
+      go (inl (l, q)) (inl f) = rw f (inl (first-before t p c (b .cell) l e (by-key (first-cell l) q f), key-is))
+      go (inl (l, q)) (inr f) = rw f (inl (first-more t p c (b .cell) l (λ h. by-key (first-cell l) q f), q))
       go (inr (none, q)) (inl f) = rw f (inl (first-alone t p c e none, key-is))
-      go (inr (none, q)) (inr f) = clash (lt-ltb (keyOf k) (b .key) (omega (arith, key-is, q .1, key< t n small c c<))) f
+      go (inr (none, q)) (inr f) = clash (lt-ltb (keyOf k) (b .key) (omega (arith, key-is, q .1, key< t n small c cell))) f

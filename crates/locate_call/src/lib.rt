@@ -13,7 +13,7 @@ use geometry::volume::in_box;
 use locate::Candidate;
 use locate::Located;
 use locate_holding::cell_holds;
-use locate_holding::shared_bits;
+use locate_holding::may_hold;
 use locate_holding::side_codes;
 use locate_key::key_of;
 use mesh::Mesh;
@@ -35,7 +35,7 @@ fn earlier(k: [u16; 4], c: usize, candidate: Candidate) -> Candidate
     candidate
 }
 
-// Of the cells that hold q, the one whose sorted corners come first; the cell count where none does.
+// Of the cells among n entries that hold q, the one whose sorted corners come first; n where none does.
 fn first_holder(points: &[u32], corners: &[u16], np: usize, n: usize, q: Position) -> usize
     requires { ⌜ Solid (now points) (now corners) np n × InRange q ⌝ }
     ensures { λ r. ⌜ r ≡ firstHolder (tables (now (points .entry)) (now (corners .entry)) []) n q ⌝ }
@@ -48,7 +48,7 @@ fn first_holder(points: &[u32], corners: &[u16], np: usize, n: usize, q: Positio
     let mut c: usize = 0;
     while c < n {
         let k = four_at(corners, c);
-        if shared_bits(&codes, k) == 0 {
+        if may_hold(&codes, k) {
             if cell_holds(points, k, q) {
                 first = earlier(k, c, first);
             }
@@ -78,7 +78,7 @@ pub fn locate(
     if !in_box(mesh.x, mesh.y, mesh.z, q) {
         return Located::Refused(4);
     }
-    let n = mesh.cells as usize;
+    let n = mesh.used as usize;
     let c = first_holder(points, corners, mesh.points as usize, n, q);
     if c == n {
         return Located::Refused(7);

@@ -1,11 +1,13 @@
 // Side codes, and whether a cell holds a position.
 
+ghost use mathlib.Core.Logic.{_≢_};
 ghost use mathlib.Core.Path.{_≡_};
 ghost use Prim.Native.Nat.{ℕ, _≤_, _<_, _*_};
 ghost use lib.ListN.{length, getD};
 ghost use Rattle.geometry.specs.Volume.{InRange};
+ghost use Rattle.mesh.specs.Tables.{none};
 ghost use Rattle.mesh.specs.Inner.{Cornered};
-ghost use Rattle.locate.specs.Inner.{axisCode, sideCode, sideCodes, sharedBits, noneNegative, holdsFour};
+ghost use Rattle.locate.specs.Inner.{axisCode, sideCode, sideCodes, sharedBits, mayHold, noneNegative, holdsFour};
 use geometry::Position;
 use geometry::Volumes;
 use geometry::volume::volumes_at;
@@ -38,12 +40,23 @@ pub fn side_codes(points: &[u32], np: usize, q: Position) -> [u8; 1024]
     codes
 }
 
-// Where a cell's corners share a bit, all are beyond q on one side of an axis: it does not hold q, and no volume is worked out.
-pub fn shared_bits(codes: &[u8], k: [u16; 4]) -> u8
+fn shared_bits(codes: &[u8], k: [u16; 4]) -> u8
     requires { ⌜ ((i : ℕ) → i < 4 → getD k i 0 < length (now codes)) ⌝ }
     ensures { λ r. ⌜ r ≡ sharedBits (now (codes .entry)) k ⌝ }
 {
     codes[k[0] as usize] & codes[k[1] as usize] & codes[k[2] as usize] & codes[k[3] as usize]
+}
+
+// A freed entry holds nothing. Where a cell's corners share a bit, all are beyond q on one side of an axis: it does not hold q, and no
+// volume is worked out.
+pub fn may_hold(codes: &[u8], k: [u16; 4]) -> bool
+    requires { ⌜ (getD k 0 0 ≢ none → (i : ℕ) → i < 4 → getD k i 0 < length (now codes)) ⌝ }
+    ensures { λ r. ⌜ r ≡ mayHold (now (codes .entry)) k ⌝ }
+{
+    if k[0] == 65535 {
+        return false;
+    }
+    shared_bits(codes, k) == 0
 }
 
 fn none_negative(v: Volumes) -> bool

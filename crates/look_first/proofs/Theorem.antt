@@ -10,14 +10,14 @@ use borrow.Author.Tests.{eq-eqb, ne-eqb, eqb-true, lt-ltb, ltb-true}
 use lib.Dec.{ltb, eqb}
 use lib.ListN.{length, getD, take}
 use lib.Seq.{take-at, getD-take}
-use Rattle.arith.proofs.Flags.{and-left, and-right, and-intro, fails}
+use Rattle.arith.proofs.Flags.{split, clash, and-left, and-right, and-intro, fails}
 use Rattle.geometry.specs.declared.Position.{Position}
 use Rattle.mesh.specs.declared.Mesh.{Mesh}
-use Rattle.mesh.specs.Tables.{Tables}
+use Rattle.mesh.specs.Tables.{Tables, live, IsCell}
 use Rattle.mesh.specs.Check.{isMesh}
 use Rattle.mesh.specs.Start.{over}
 use Rattle.mesh.specs.Refusal.{meshRefusal}
-use Rattle.mesh.proofs.Verdict.{passed}
+use Rattle.mesh.proofs.Valid.{valid-of, passed}
 use Rattle.cavity.specs.Answers.{sphere}
 use Rattle.cavity.specs.Cavity.{inSet}
 use Rattle.insertion.specs.declared.Report.{Report}
@@ -26,11 +26,12 @@ use Rattle.insertion.specs.declared.Inserted.the-variants.{Accepted, Refused}
 use Rattle.insertion.specs.declared.Looked.the-variants.{Reported, Refused as LookRefused}
 use Rattle.insertion.specs.Insertion.{lastCavity, nodeRefusal, fewerBytes, firstOf, insertRefusal, reportOf, insertedMesh, insertedTables, insertUnless, insertCall, InsertLeaves}
 use Rattle.insertion.specs.Look.{cavityMarks, lookRefusal, lookUnless, lookCall, LookLeaves, beginsWith, markedRefusal, markedCall, MarkedLeaves}
-use Rattle.insertion.proofs.Refusals.{first-refuses, first-passes, look-refuses, look-passes, look-passed, marked-refuses, marked-passes, unless-accepted, unless-refused, refused-unless, up-to-eight, tests-passed}
+use Rattle.insertion.proofs.Refusals.{first-refuses, first-passes, look-refuses, look-passes, look-passed, marked-refuses, marked-passes, unless-accepted, unless-refused, refused-unless, up-to-eight, node-fits, tests-passed}
+use Rattle.insertion.proofs.Growing.{star-shaped}
 use Rattle.insertion.proofs.Looking.{marks-length, mark-at, tables-stay}
-use Rattle.located.specs.Claim.{Stands}
+use Rattle.located.specs.Claim.{Stands, KeepsNumber}
 use Rattle.located.specs.Parked.{OutsideCavity}
-use Rattle.located.proofs.Parked.{outside-stands, stands-outside}
+use Rattle.located.proofs.Parked.{outside-keeps, stands-outside, inside-freed}
 use Rattle.look_first.specs.Claim.{counted, AfterLook, RefusedAlike}
 
 -- ---- bytes
@@ -116,7 +117,7 @@ module _ (m : Mesh) (t : Tables) (w : ℕ) (p : Position) where
     where-refused : R ≢ 0 → L ≡ R
     where-refused d = look-refuses m marks refl d
 
-    where-accepted : R ≡ 0 → L ≡ cond (ltb (length marks) (m .cells)) 10 0
+    where-accepted : R ≡ 0 → L ≡ cond (ltb (length marks) (m .used)) 10 0
     where-accepted z = look-passes m marks z
 
     refused-alike : RefusedAlike m t w p marks
@@ -132,11 +133,11 @@ module _ (m : Mesh) (t : Tables) (w : ℕ) (p : Position) where
       marked-too = λ e q. let h = refused-number e q in ap (λ r. insertUnless r m t p sphere) (marked-refuses m t p sphere marks refl (h .0));
     }
       where
-        few : length marks < m .cells → L ≡ 0 → ⊥
-        few h z = omega (arith, rw (lt-ltb (length marks) (m .cells) h) at (look-passed m marks z .1))
+        few : length marks < m .used → L ≡ 0 → ⊥
+        few h z = omega (arith, rw (lt-ltb (length marks) (m .used) h) at (look-passed m marks z .1))
 
-        by-marks : (b : Bool) → b ≡ ltb (length marks) (m .cells) → (e : ℕ) → cond {A = ℕ} b 10 0 ≢ 0 → cond b 10 0 ≡ e → (e ≡ 10) × (length marks < m .cells)
-        by-marks true f e d q = (sym q, ltb-true (length marks) (m .cells) (sym f))
+        by-marks : (b : Bool) → b ≡ ltb (length marks) (m .used) → (e : ℕ) → cond {A = ℕ} b 10 0 ≢ 0 → cond b 10 0 ≡ e → (e ≡ 10) × (length marks < m .used)
+        by-marks true f e d q = (sym q, ltb-true (length marks) (m .used) (sym f))
         by-marks false f e d q = absurd (d refl)
 
         insertion-too : (e : ℕ) → lookCall m t w p marks .answer ≡ LookRefused e → e ≢ 10 → insertCall m t w p sphere .answer ≡ Refused e
@@ -146,22 +147,22 @@ module _ (m : Mesh) (t : Tables) (w : ℕ) (p : Position) where
             go (no r) h = ap (λ l. l .answer) (insert-refused r) ∙ ap Refused (sym (where-refused r) ∙ h .1)
             go (yes z) h =
                 let k = where-accepted z in
-                absurd (d (by-marks (ltb (length marks) (m .cells)) refl e (subst (λ x. x ≢ 0) k (h .0)) (sym k ∙ h .1) .0))
+                absurd (d (by-marks (ltb (length marks) (m .used)) refl e (subst (λ x. x ≢ 0) k (h .0)) (sym k ∙ h .1) .0))
 
-        ten : L ≡ 10 → (length marks < m .cells) × ((e : ℕ) → insertCall m t w p sphere .answer ≢ Refused e)
+        ten : L ≡ 10 → (length marks < m .used) × ((e : ℕ) → insertCall m t w p sphere .answer ≢ Refused e)
         ten q = go (ℕ-discrete R 0)
           where
-            go : Dec (R ≡ 0) → (length marks < m .cells) × ((e : ℕ) → insertCall m t w p sphere .answer ≢ Refused e)
+            go : Dec (R ≡ 0) → (length marks < m .used) × ((e : ℕ) → insertCall m t w p sphere .answer ≢ Refused e)
             go (no r) = absurd (omega (arith, up-to-eight m t w p sphere, where-refused r, q))
             go (yes z) =
                 let k = where-accepted z in
-                (by-marks (ltb (length marks) (m .cells)) refl 10 (λ f. omega (arith, f, k, q)) (sym k ∙ q) .1, never-refused z)
+                (by-marks (ltb (length marks) (m .used)) refl 10 (λ f. omega (arith, f, k, q)) (sym k ∙ q) .1, never-refused z)
 
 -- ---- a look that answers a report
 
-marks-long : (m : Mesh) (t : Tables) (p : Position) → length (cavityMarks m t p sphere) ≡ m .cells
+marks-long : (m : Mesh) (t : Tables) (p : Position) → length (cavityMarks m t p sphere) ≡ m .used
 unfolding cavityMarks
-marks-long m t p = marks-length (m .cells) (inSet (lastCavity m t p sphere))
+marks-long m t p = marks-length (m .used) (inSet (lastCavity m t p sphere))
 
 module _ (m : Mesh) (t : Tables) (w : ℕ) (p : Position) (seen : List ℕ) where
   abbrev expected : List ℕ
@@ -181,29 +182,37 @@ module _ (m : Mesh) (t : Tables) (w : ℕ) (p : Position) (seen : List ℕ) wher
       unless-refused m t p sphere (marked-passes m t p sphere marks z ∙ rw b) (λ o. omega arith)
 
   module _ (z : insertRefusal m t w p sphere ≡ 0) (e : counted m seen ≡ expected) where
-    mark-is : (c : ℕ) → c < m .cells → getD seen c 0 ≡ cond (inSet (lastCavity m t p sphere) c) 1 0
+    mark-is : (c : ℕ) → c < m .used → getD seen c 0 ≡ cond (inSet (lastCavity m t p sphere) c) 1 0
     unfolding cavityMarks
-    mark-is c h = sym (getD-take (m .cells) seen c 0 h) ∙ (ap (λ l. getD l c 0) e ∙ mark-at (m .cells) (inSet (lastCavity m t p sphere)) c h)
+    mark-is c h = sym (getD-take (m .used) seen c 0 h) ∙ (ap (λ l. getD l c 0) e ∙ mark-at (m .used) (inSet (lastCavity m t p sphere)) c h)
 
     -- 1 or 0, and which of them says whether the cell is replaced
-    marked : (c : ℕ) → c < m .cells → (getD seen c 0 ≡ 1) ⊎ (getD seen c 0 ≡ 0)
+    marked : (c : ℕ) → c < m .used → (getD seen c 0 ≡ 1) ⊎ (getD seen c 0 ≡ 0)
     marked c h = go (inSet (lastCavity m t p sphere) c) (mark-is c h)
       where
         go : (b : Bool) → getD seen c 0 ≡ cond b 1 0 → (getD seen c 0 ≡ 1) ⊎ (getD seen c 0 ≡ 0)
         go true q = inl q
         go false q = inr q
 
-    outside-where : (c : ℕ) → c < m .cells → getD seen c 0 ≡ 0 → OutsideCavity m t p sphere c
+    outside-where : (c : ℕ) → c < m .used → getD seen c 0 ≡ 0 → OutsideCavity m t p sphere c
     outside-where c h o = fails (inSet (lastCavity m t p sphere) c) (λ b. omega (arith, o, rw b at (mark-is c h)))
 
-    inside-where : (c : ℕ) → c < m .cells → getD seen c 0 ≡ 1 → OutsideCavity m t p sphere c → ⊥
-    inside-where c h o b = omega (arith, o, rw b at (mark-is c h))
+    inside-where : (c : ℕ) → c < m .used → getD seen c 0 ≡ 1 → inSet (lastCavity m t p sphere) c ≡ true
+    inside-where c h o = go (split (inSet (lastCavity m t p sphere) c))
+      where
+        go : (inSet (lastCavity m t p sphere) c ≡ true) ⊎ (inSet (lastCavity m t p sphere) c ≡ false) → inSet (lastCavity m t p sphere) c ≡ true
+        go (inl b) = b
+        go (inr b) = absurd (omega (arith, o, rw b at (mark-is c h)))
 
-    passes : (meshRefusal m t w (fewerBytes sphere (m .cells)) ≡ 0) × (nodeRefusal m t w p sphere ≡ 0)
+    passes : (meshRefusal m t w (fewerBytes sphere (m .used)) ≡ 0) × (nodeRefusal m t w p sphere ≡ 0)
     passes = tests-passed m t w p sphere z
 
     a-mesh : isMesh m t w ≡ true
-    a-mesh = passed m t w (fewerBytes sphere (m .cells)) (passes .0)
+    a-mesh = passed m t w (fewerBytes sphere (m .used)) (passes .0)
+
+    -- what is marked 1 is a cell
+    inside-cell : (c : ℕ) → inSet (lastCavity m t p sphere) c ≡ true → IsCell t (m .used) c
+    inside-cell = star-shaped m t w w p sphere (valid-of m t w a-mesh) (node-fits m t w p sphere (passes .1)) (omega arith) .cells
 
     tables-are : insertCall m t w p sphere .tables ≡ insertedTables m t p sphere
     tables-are = ap (λ l. l .tables) (insert-accepted m t w p z)
@@ -215,11 +224,13 @@ module _ (m : Mesh) (t : Tables) (w : ℕ) (p : Position) (seen : List ℕ) wher
       same-marks = λ marks q. same-marks marks (q ∙ e);
       other-marks = λ marks d. other-marks z marks (λ q. d (q ∙ sym e));
       replaced = λ c h o S.
-          inside-where c h o
-          (stands-outside m t w p sphere a-mesh (passes .1) c h (subst (λ x. Stands t c x (insertedMesh m t p sphere .cells)) tables-are S));
+          let b = inside-where c h o in
+          clash b (stands-outside m t w p sphere a-mesh (passes .1) c (inside-cell c b) (subst (λ x. Stands t c x (insertedMesh m t p sphere .used)) tables-are S));
+      number-freed = λ c h o. ap (λ x. live x c) tables-are ∙ inside-freed m t w p sphere a-mesh (passes .1) c (inside-where c h o);
       kept = λ c h o.
-          subst (λ x. Stands t c x (insertedMesh m t p sphere .cells)) (sym tables-are)
-          (outside-stands m t w p sphere a-mesh (passes .1) c h (outside-where c h o));
+          subst (λ x. KeepsNumber t c x (insertedMesh m t p sphere .used)) (sym tables-are)
+          (outside-keeps m t w p sphere a-mesh (passes .1) c h (outside-where c (h .below) o));
+      freed = λ c h a. mark-is c h ∙ rw (fails (inSet (lastCavity m t p sphere) c) (λ b. clash (inside-cell c b .lives) a));
       marked = marked;
     }
 
@@ -230,7 +241,7 @@ look-first m t w p marks r q =
     let h = reported m t w p marks r q in
     let z = look-passed m marks (h .0) .0 in
     let e : counted m (lookCall m t w p marks .marks) ≡ cavityMarks m t p sphere =
-    ap (λ l. take (m .cells) (l .marks)) (look-accepted m t w p marks (h .0)) ∙ take-at (cavityMarks m t p sphere) _ (m .cells) (marks-long m t p) in
+    ap (λ l. take (m .used) (l .marks)) (look-accepted m t w p marks (h .0)) ∙ take-at (cavityMarks m t p sphere) _ (m .used) (marks-long m t p) in
     subst (λ r. AfterLook m t w p r (lookCall m t w p marks .marks)) (h .1) (after-look m t w p (lookCall m t w p marks .marks) z e)
 
 -- and where it is refused

@@ -18,13 +18,14 @@ use Rattle.arith.specs.Determinant.{Vector, det4-of}
 use Rattle.arith.proofs.Sums.{sum-cong}
 use Rattle.arith.proofs.Tables.{all-at}
 use Rattle.geometry.specs.Volume.{InBox, volume6, volume}
-use Rattle.mesh.specs.Tables.{Tables, none, cellOf, opposite, pointIn, point, corner, across, cornerAt, cellVolume}
+use Rattle.mesh.specs.Tables.{Tables, none, cellOf, opposite, pointIn, point, corner, across, cornerAt, cellVolume, live}
 use Rattle.mesh.specs.Mesh.{LegalSide, bit, atBit, boxCorner, Wall, low-x, low-y, low-z, high-x, high-y, high-z, along, level, OnWall, IsMesh}
 use Rattle.mesh.specs.Check.{usedOk, faceOk}
 use Rattle.mesh.specs.Start.{startPoints, startCorners, startNeighbours, started}
 use Rattle.mesh.specs.Inner.{fourAt, cellAt}
 use Rattle.mesh.specs.Inner.Faces.{placeIn, oddOrder, facesBack, faceTest, faceNumbers}
-use Rattle.mesh.proofs.FaceNumbers.{face-eq, opposite<, cell<}
+use Rattle.mesh.proofs.FaceNumbers.{face-eq, opposite<, face<}
+use Rattle.mesh.proofs.Live.{live-of}
 use Rattle.mesh.proofs.Numbers.{face-numbers-is}
 use Rattle.mesh.proofs.Checked.{used-of, face-mated-of}
 
@@ -98,6 +99,9 @@ module _ (X Y Z : ℕ) (t : Tables) where
       test : allBelow 6 (λ c. allBelow 4 (λ i. ltb (corner t₀ c i) 8)) ≡ true
       test = refl
 
+  pub start-live : (c : ℕ) → c < 6 → live (started X Y Z t) c ≡ true
+  start-live c h = live-of t₀ c 0 (omega arith) (omega (arith, start-corner c 0 h (omega arith)))
+
   start-used : allBelow 8 (usedOk t₀ 6) ≡ true
   unfolding allBelow anyBelow usedOk corner started startCorners
   start-used = refl
@@ -127,7 +131,7 @@ module _ (X Y Z : ℕ) (t : Tables) where
     on = λ k l d.
         let test = or-other (not (eqb (across t₀ f) none)) (allBelow 4 (λ k. eqb k (opposite f) || onWall (wallOf f) (corner t₀ (cellOf f) k))) (rw (eq-eqb (across t₀ f) none b)) (all-at 24 wall-test start-walls f h) in
         let here = or-other (eqb k (opposite f)) (onWall (wallOf f) (corner t₀ (cellOf f) k)) (ne-eqb k (opposite f) d) (all-at 4 (λ k. eqb k (opposite f) || onWall (wallOf f) (corner t₀ (cellOf f) k)) test k l) in
-        ap (along (wallOf f)) (start-point (corner t₀ (cellOf f) k) (start-corner (cellOf f) k (cell< f h) l)) ∙ on-wall (wallOf f) (corner t₀ (cellOf f) k) here;
+        ap (along (wallOf f)) (start-point (corner t₀ (cellOf f) k) (start-corner (cellOf f) k (omega arith) l)) ∙ on-wall (wallOf f) (corner t₀ (cellOf f) k) here;
   }
     where
       wall-test : ℕ → Bool
@@ -147,7 +151,7 @@ module _ (X Y Z : ℕ) (t : Tables) where
     unfolding started startNeighbours
     start-inner f h d =
         ap (faceOk X Y Z t₀ 6) (sym (face-eq f)) ∙
-        (sym (face-numbers-is X Y Z t₀ 6 start-positive room (cellOf f) (opposite f) (cell< f h) (opposite< f)) ∙
+        (sym (face-numbers-is X Y Z t₀ 6 (λ c l. start-positive c (l .below)) (λ c i l k. omega (arith, start-corner c i (l .below) k)) room (cellOf f) (opposite f) record { below = omega arith; lives = start-live (cellOf f) (omega arith) } (opposite< f)) ∙
         or-other (eqb (across t₀ f) none) (faceNumbers X Y Z t₀ 6 (cellOf f) (opposite f)) (ne-eqb (across t₀ f) none d)
         (all-at 24 (λ f. eqb (across t₀ f) none || faceNumbers X Y Z t₀ 6 (cellOf f) (opposite f)) start-faces f h))
       where
@@ -168,10 +172,10 @@ module _ (X Y Z : ℕ) (t : Tables) where
       boxCorners = start-point;
       inside = λ k h. subst (InBox X Y Z) (sym (start-point k h)) record { x≤ = at≤ k 0 X; y≤ = at≤ k 1 Y; z≤ = at≤ k 2 Z };
       used = λ k h. used-of t₀ 6 k (all-at 8 (usedOk t₀ 6) start-used k h);
-      corner< = start-corner;
-      across< = λ f h d. face-mated-of t₀ X Y Z 6 f (start-inner f h d) d .0;
-      positive = start-positive;
-      walls = start-wall;
-      mated = λ f h d. face-mated-of t₀ X Y Z 6 f (start-inner f h d) d .1;
+      corner< = λ c i l. start-corner c i (l .below);
+      across< = λ f h d. face-mated-of t₀ X Y Z 6 f (start-inner f (face< f h) d) d .0;
+      positive = λ c l. start-positive c (l .below);
+      walls = λ f h. start-wall f (face< f h);
+      mated = λ f h d. face-mated-of t₀ X Y Z 6 f (start-inner f (face< f h) d) d .1;
       volumes = start-sum;
     }

@@ -2,6 +2,7 @@
 pub mod Room
 pub mod Loops
 pub mod Outcomes
+pub mod Live
 pub mod FaceNumbers
 pub mod Glued
 pub mod Links
@@ -14,7 +15,9 @@ pub mod Corners
 pub mod Reading
 pub mod Points
 pub mod Checked
+pub mod Chains
 pub mod FirstMesh
 pub mod Pieces
+pub mod Valid
 pub mod Tally
 pub mod Verdict

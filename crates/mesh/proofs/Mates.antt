@@ -7,21 +7,21 @@ use native.Mathlib.Decide.{ℕ-discrete}
 use lib.IntN.{pos}
 use lib.Signed.{_<ℤ_}
 use Rattle.arith.proofs.Order.{<-irrefl, <-≤-trans}
-use Rattle.mesh.specs.Tables.{Tables, none, cellOf, opposite, point, corner, across, cornerAt, cellVolume, side, mate}
+use Rattle.mesh.specs.Tables.{Tables, none, cellOf, opposite, point, corner, across, cornerAt, cellVolume, side, mate, IsFace}
 use Rattle.mesh.specs.Mesh.{OnFace, IsMesh}
 use Rattle.mesh.proofs.Room.{Room}
-use Rattle.mesh.proofs.FaceNumbers.{face-eq, face-cell, face-opposite, opposite<, cell<}
-use Rattle.mesh.proofs.Faces.{few, mated}
+use Rattle.mesh.proofs.FaceNumbers.{face-eq, face-cell, face-opposite, opposite<, face-in}
+use Rattle.mesh.proofs.Faces.{few, mated, across-cell}
 use Rattle.mesh.proofs.Held.{own-corner}
 
 module _ {X Y Z pc cc np n : ℕ} {t : Tables} (M : IsMesh X Y Z pc cc np n t) (R : Room pc cc t) where
   -- no corner of f's own cell lies beyond f
-  not-beyond : (f : ℕ) → f < 4 * n → (l : ℕ) → l < 4 → side t (cornerAt t (cellOf f) l) f <ℤ pos 0 → ⊥
+  not-beyond : (f : ℕ) → IsFace t n f → (l : ℕ) → l < 4 → side t (cornerAt t (cellOf f) l) f <ℤ pos 0 → ⊥
   unfolding side cellVolume
   not-beyond f f< l h e =
-      <-irrefl (<-≤-trans e (own-corner (cornerAt t (cellOf f)) (opposite f) l (opposite< f) h (M .positive (cellOf f) (cell< f f<))))
+      <-irrefl (<-≤-trans e (own-corner (cornerAt t (cellOf f)) (opposite f) l (opposite< f) h (M .positive (cellOf f) f<)))
 
-  pub mate-by-name : (f k : ℕ) → f < 4 * n → across t f ≢ none → k < 4 → across t (4 * across t f + k) ≡ cellOf f → 4 * across t f + k ≡ mate t f
+  pub mate-by-name : (f k : ℕ) → IsFace t n f → across t f ≢ none → k < 4 → across t (4 * across t f + k) ≡ cellOf f → 4 * across t f + k ≡ mate t f
   unfolding cornerAt
   mate-by-name f k f< real k< e = go (ℕ-discrete k (opposite (mate t f)))
     where
@@ -31,11 +31,11 @@ module _ {X Y Z pc cc np n : ℕ} {t : Tables} (M : IsMesh X Y Z pc cc np n t) (
       far : cellOf (mate t f) ≡ across t f
       far = mated M R f f< real .far-cell
 
-      g< : g < 4 * n
-      g< = omega (arith, M .across< f f< real)
+      g< : IsFace t n g
+      g< = face-in (across t f) k k< (across-cell M R f f< real)
 
       g-real : across t g ≢ none
-      g-real = omega (arith, e, cell< f f<, few M R)
+      g-real = omega (arith, e, f< .below, few M R)
 
       go : Dec (k ≡ opposite (mate t f)) → 4 * across t f + k ≡ mate t f
       go (yes q) = ap (λ x. 4 * across t f + x) q ∙ (ap (λ x. 4 * x + opposite (mate t f)) (sym far) ∙ face-eq (mate t f))

@@ -7,23 +7,24 @@ use mathlib.Core.Logic.{_≢_, _⊎_, inl, inr}
 use mathlib.Core.Path.{_≡_, refl, sym, ap, _∙_, subst}
 use native.Mathlib.Omega.{arith}
 use native.Mathlib.Nat.{add-zero}
-use borrow.Author.Tests.{eq-eqb, ne-eqb, eqb-true, leb-true, le-leb, ltb-true}
+use borrow.Author.Tests.{eq-eqb, ne-eqb, eqb-true, leb-true, le-leb, ltb-true, lt-leb}
 use lib.Dec.{leb, ltb, eqb}
 use lib.ListN.{length, getD}
 use lib.IntN.{pos}
 use lib.Signed.{_<ℤ_, ltZ}
 use mir.Val.{boolByte}
 use Rattle.arith.specs.Table.{allBelow, anyBelow}
-use Rattle.arith.proofs.Flags.{split, clash, and-left, and-right, and-intro, or-other, bool-ext, below-four}
-use Rattle.arith.proofs.Tables.{any-default, all-at, any-found, any-intro}
+use Rattle.arith.proofs.Flags.{split, clash, and-left, and-right, and-intro, or-other, bool-ext, below-four, fails}
+use Rattle.arith.proofs.Tables.{any-default, all-at, any-found, any-intro, Found}
 use Rattle.arith.proofs.Determinant.{odd}
 use Rattle.geometry.proofs.Algebra.{volume-cong}
 use Rattle.mesh.specs.declared.Cell.{Cell}
-use Rattle.mesh.specs.Tables.{Tables, pointIn, none, cellOf, opposite, point, corner, across, cornerAt, cellVolume, side, sameFace, placeOf, tables}
+use Rattle.mesh.specs.Tables.{Tables, pointIn, none, cellOf, opposite, point, corner, across, cornerAt, cellVolume, live, IsCell, side, sameFace, placeOf, tables}
 use Rattle.mesh.specs.Mesh.{OnFace, Wall, low-x, low-y, low-z, high-x, high-y, high-z, along, level}
 use Rattle.mesh.specs.Check.{matedOk, wallOk, someWall, faceOk}
 use Rattle.mesh.specs.Inner.{volumeOfFour, fourAt, cellAt}
 use Rattle.mesh.specs.Inner.Faces.{placeIn, oddOrder, facesBack, first, second, third, allOn, onOneWall, faceTest, faceNumbers}
+use Rattle.mesh.proofs.Live.{freed-corner}
 use Rattle.mesh.proofs.FaceNumbers.{face-cell, face-opposite}
 use Rattle.mesh.proofs.Links.{Same, same-yes, same-of, link, turned, distinct, far-side-turned, place-of}
 
@@ -463,12 +464,44 @@ walls-are X Y Z t c i hi =
     each : (w : Wall) → wallOk X Y Z t (4 * c + i) w ≡ allOn X Y Z w (point t (corner t c (first i))) (point t (corner t c (second i))) (point t (corner t c (third i)))
     each w = wall-at X Y Z t c i hi w ∙ wall-three X Y Z t c i hi w
 
+-- a freed entry has no face of a cell
+freed-place : (t : Tables) (u v : ℕ) → live t u ≡ false → v ≢ none → placeIn (fourAt (t .corners) u) v ≡ 8
+unfolding placeIn
+freed-place t u v a d = rw (off 0 (omega arith), off 1 (omega arith), off 2 (omega arith), off 3 (omega arith))
+  where
+    off : (k : ℕ) → k < 4 → eqb (getD (fourAt (t .corners) u) k 0) v ≡ false
+    off k h = ne-eqb (getD (fourAt (t .corners) u) k 0) v (λ e. d (sym (sym (four-corner t u k h ∙ freed-corner t u a k h) ∙ e)))
+
+freed-faces-back : (t : Tables) (c u i p q r : ℕ) → live t u ≡ false → p ≢ none → facesBack c i p q r (cellAt (t .corners) (t .neighbours) u) ≡ false
+unfolding facesBack cellAt
+freed-faces-back t c u i p q r a d =
+    rw (freed-place t u p a d, lt-leb (8 + placeIn (fourAt (t .corners) u) q + placeIn (fourAt (t .corners) u) r) 6 (omega arith)) (off (leb 3 (8 + placeIn (fourAt (t .corners) u) q + placeIn (fourAt (t .corners) u) r)))
+  where
+    off : (x : Bool) → (x && false) ≡ false
+    off true = refl
+    off false = refl
+
+no-face-of-freed : (t : Tables) (c u i : ℕ) → i < 4 → corner t c (first i) ≢ none → live t u ≡ false →
+    facesBack c i (corner t c (first i)) (corner t c (second i)) (corner t c (third i)) (cellAt (t .corners) (t .neighbours) u) ≡ anyBelow 4 (λ k. matedOk t (4 * c + i) (4 * u + k))
+unfolding matedOk
+no-face-of-freed t c u i hi d a =
+    freed-faces-back t c u i (corner t c (first i)) (corner t c (second i)) (corner t c (third i)) a d ∙
+    sym (fails (anyBelow 4 (λ k. matedOk t (4 * c + i) (4 * u + k))) (λ e. go (any-found 4 (λ k. matedOk t (4 * c + i) (4 * u + k)) e)))
+  where
+    go : Found 4 (λ k. matedOk t (4 * c + i) (4 * u + k)) → ⊥
+    go w = by (same-of t (4 * c + i) (4 * u + w .at) (and-left (sameFace t (4 * c + i) (4 * u + w .at)) _ (w .passes)) (first i) (others i hi .first<) (λ e. others i hi .first-off (e ∙ face-opposite c i hi)))
+      where
+        by : OnFace t (4 * u + w .at) (corner t (cellOf (4 * c + i)) (first i)) → ⊥
+        by o =
+            d (ap (λ x. corner t x (first i)) (sym (face-cell c i hi)) ∙ (sym (o .is) ∙
+            (ap (λ x. corner t x (o .place)) (face-cell u (w .at) (w .below)) ∙ freed-corner t u a (o .place) (o .place<))))
+
 -- ---- every face
 
-pub face-numbers-is : (X Y Z : ℕ) (t : Tables) (n : ℕ) → ((c : ℕ) → c < n → pos 0 <ℤ cellVolume t c) → 4 * n ≤ length (t .neighbours) →
-    (c i : ℕ) → c < n → i < 4 → faceNumbers X Y Z t n c i ≡ faceOk X Y Z t n (4 * c + i)
+pub face-numbers-is : (X Y Z : ℕ) (t : Tables) (n : ℕ) → ((c : ℕ) → IsCell t n c → pos 0 <ℤ cellVolume t c) → ((c i : ℕ) → IsCell t n c → i < 4 → corner t c i ≢ none) → 4 * n ≤ length (t .neighbours) →
+    (c i : ℕ) → IsCell t n c → i < 4 → faceNumbers X Y Z t n c i ≡ faceOk X Y Z t n (4 * c + i)
 unfolding faceNumbers faceTest faceOk
-face-numbers-is X Y Z t n positive room c i hc hi = go (split (eqb (across t (4 * c + i)) none)) (split (ltb (across t (4 * c + i)) n))
+face-numbers-is X Y Z t n positive small room c i hc hi = go (split (eqb (across t (4 * c + i)) none)) (split (ltb (across t (4 * c + i)) n))
   where
     u : ℕ
     u = across t (4 * c + i)
@@ -476,8 +509,12 @@ face-numbers-is X Y Z t n positive room c i hc hi = go (split (eqb (across t (4 
     go : (eqb u none ≡ true) ⊎ (eqb u none ≡ false) → (ltb u n ≡ true) ⊎ (ltb u n ≡ false) → faceNumbers X Y Z t n c i ≡ faceOk X Y Z t n (4 * c + i)
     go (inl e) l = rw e (walls-are X Y Z t c i hi)
     go (inr e) (inr l) = rw (e, l)
-    go (inr e) (inl l) =
-        rw (e, l) (faces-back-is t c u i hi (positive c hc) (positive u (ltb-true u n l)) (omega (arith, ltb-true u n l)))
+    go (inr e) (inl l) = rw (e, l) (by (split (live t u)))
+      where
+        by : (live t u ≡ true) ⊎ (live t u ≡ false) →
+            facesBack c i (corner t c (first i)) (corner t c (second i)) (corner t c (third i)) (cellAt (t .corners) (t .neighbours) u) ≡ anyBelow 4 (λ k. matedOk t (4 * c + i) (4 * u + k))
+        by (inl a) = faces-back-is t c u i hi (positive c hc) (positive u record { below = ltb-true u n l; lives = a }) (omega (arith, ltb-true u n l))
+        by (inr a) = no-face-of-freed t c u i hi (small c (first i) hc (others i hi .first<)) a
 
 -- face i of a cell that was loaded
 pub loaded-face : (X Y Z : ℕ) (t : Tables) (n c : ℕ) → 4 * c + 4 ≤ length (t .neighbours) → {cell : Cell} → cell ≡ cellAt (t .corners) (t .neighbours) c →

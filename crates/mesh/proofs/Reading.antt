@@ -2,18 +2,19 @@
 use Prim.Native.Nat.{ℕ, _+_, _*_, _≤_, _<_}
 use mathlib.Core.List.{List}
 use mathlib.Core.Logic.{_≢_}
-use mathlib.Core.Path.{_≡_, sym, ap, _∙_, subst}
+use mathlib.Core.Path.{_≡_, refl, sym, ap, _∙_, subst}
 use native.Mathlib.Omega.{arith}
 use lib.ListN.{getD}
 use Rattle.arith.proofs.Tables.{any-default}
 use Rattle.geometry.specs.Volume.{InRange}
 use Rattle.mesh.specs.declared.Cell.{Cell}
-use Rattle.mesh.specs.Tables.{Tables, none, pointIn, cellOf, opposite, corner, across, cornerAt, cellVolume, pointCapacity, cellCapacity, tables}
+use Rattle.mesh.specs.Tables.{Tables, none, pointIn, corner, across, cornerAt, cellVolume, pointCapacity, cellCapacity, tables, IsCell}
 use Rattle.mesh.specs.Inner.{HasPoint, HasCell, fourAt, cellAt, Cornered, Placed, Solid, SomeMesh}
 use Rattle.mesh.proofs.Room.{Room, room-of}
 use Rattle.mesh.proofs.Corners.{placed-cornered}
 use Rattle.mesh.proofs.Numbers.{four-corner, four-entry}
-use Rattle.mesh.proofs.FaceNumbers.{face-eq, opposite<, cell<}
+use Rattle.mesh.proofs.FaceNumbers.{face-in}
+use Rattle.mesh.proofs.Live.{cell-same}
 
 module _ {ps cs ns : List ℕ} {np n : ℕ} (M : SomeMesh (tables ps cs ns) np n) where
   abbrev t : Tables
@@ -45,14 +46,14 @@ module _ {ps cs ns : List ℕ} {np n : ℕ} (M : SomeMesh (tables ps cs ns) np n
   placed : Placed ps np
   placed = record { points-few = points-few; points-fit = omega (arith, M .mesh .points≤, room .points-fit); in-range = point-in-range }
 
-  pub cornered : (c : ℕ) → c < n → Cornered ps (fourAt cs c)
+  pub cornered : (c : ℕ) → IsCell t n c → Cornered ps (fourAt cs c)
   cornered c h =
       placed-cornered placed (λ i l. subst (λ v. v < np) (sym (four-corner t c i l)) (M .mesh .corner< c i h l))
 
-  pub corner-mark : (c j : ℕ) → c < n → j < 4 → getD (fourAt cs c) j 0 < 1024
+  pub corner-mark : (c j : ℕ) → IsCell t n c → j < 4 → getD (fourAt cs c) j 0 < 1024
   corner-mark c j h l = omega (arith, four-corner t c j l, M .mesh .corner< c j h l, points-few)
 
-  pub corner-in-range : (c i : ℕ) → c < n → i < 4 → InRange (cornerAt t c i)
+  pub corner-in-range : (c i : ℕ) → IsCell t n c → i < 4 → InRange (cornerAt t c i)
   unfolding cornerAt
   corner-in-range c i h l = point-in-range (corner t c i) (M .mesh .corner< c i h l)
 
@@ -61,8 +62,8 @@ module _ {ps cs ns : List ℕ} {np n : ℕ} (M : SomeMesh (tables ps cs ns) np n
   solid = record {
     placed = placed;
     celled = record { cells-few = cells-few; cells-fit = omega (arith, M .mesh .cells≤, room .corners-fit) };
-    below = λ k h. subst (λ f. getD cs f 0 < np) (face-eq k) (M .mesh .corner< (cellOf k) (opposite k) (cell< k h) (opposite< k));
-    positive = M .mesh .positive;
+    below = λ c i h. M .mesh .corner< c i (cell-same (λ i l. refl) h);
+    positive = λ c h. M .mesh .positive c (cell-same (λ i l. refl) h);
   }
 
   -- a neighbour as the table has it
@@ -80,14 +81,14 @@ pub loaded-neighbours : (cs ns : List ℕ) (c : ℕ) {cell : Cell} → cell ≡ 
 unfolding cellAt
 loaded-neighbours cs ns c e = ap (λ x. x .neighbours) e
 
-module _ {ps cs ns : List ℕ} {np n : ℕ} (M : SomeMesh (tables ps cs ns) np n) {c : ℕ} (c< : c < n)
+module _ {ps cs ns : List ℕ} {np n : ℕ} (M : SomeMesh (tables ps cs ns) np n) {c : ℕ} (c< : IsCell (tables ps cs ns) n c)
     {cell : Cell} (e : cell ≡ cellAt cs ns c) where
   pub loaded-cornered : Cornered ps (cell .corners)
   loaded-cornered = subst (Cornered ps) (sym (loaded-corners cs ns c e)) (cornered M c c<)
 
   pub entry-across : (i : ℕ) → i < 4 → getD (cell .neighbours) i 0 ≡ across (tables ps cs ns) (4 * c + i)
-  entry-across i l = ap (λ u. getD u i 0) (loaded-neighbours cs ns c e) ∙ (four-entry ns c i l ∙ across-at M c i c< l)
+  entry-across i l = ap (λ u. getD u i 0) (loaded-neighbours cs ns c e) ∙ (four-entry ns c i l ∙ across-at M c i (c< .below) l)
 
   pub loaded-link : (i : ℕ) → i < 4 → getD (cell .neighbours) i 0 ≢ none → getD (cell .neighbours) i 0 < 4096
   loaded-link i l real =
-      omega (arith, cells-few M, entry-across i l, M .mesh .across< (4 * c + i) (omega arith) (λ x. real (entry-across i l ∙ x)))
+      omega (arith, cells-few M, entry-across i l, M .mesh .across< (4 * c + i) (face-in c i l c<) (λ x. real (entry-across i l ∙ x)))

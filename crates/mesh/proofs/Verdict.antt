@@ -1,51 +1,70 @@
 -- The mesh check from the tests that the code makes one after the other.
-use Prim.Native.Nat.{ℕ, _+_, _*_, _≤_, _<_}
-use mathlib.Core.Bool.{Bool, true, false, _&&_, _||_}
+use Prim.Native.Nat.{ℕ, zero, suc, _+_, _*_, _-_, _≤_, _<_}
+use mathlib.Core.Bool.{Bool, true, false, not, _&&_, _||_}
 use mathlib.Core.Logic.{_⊎_, inl, inr}
 use mathlib.Core.List.{List, []}
-use mathlib.Core.Path.{_≡_, sym, ap, _∙_, subst}
+use mathlib.Core.Path.{_≡_, refl, sym, ap, _∙_}
 use native.Mathlib.Omega.{arith}
-use borrow.Author.Tests.{ltb-true}
-use lib.Dec.{ltb}
-use lib.ListN.{length, getD}
+use borrow.Author.Tests.{ltb-true, not-true}
+use lib.Dec.{eqb, ltb}
+use lib.ListN.{length}
 use lib.IntN.{pos}
 use lib.Signed.{_<ℤ_}
-use Rattle.arith.specs.Table.{allBelow, sum}
-use Rattle.arith.proofs.Flags.{split, clash, fails, bool-ext, and-left, and-right, and-intro}
+use Rattle.arith.specs.Table.{allBelow, countBelow, sum}
+use Rattle.arith.proofs.Flags.{split, clash, fails, bool-ext, and-left, and-right, and-intro, or-left, or-right, or-other}
 use Rattle.arith.proofs.Order.{ltZ-true, le-leZ, ≡→≤}
 use Rattle.arith.proofs.Tables.{all-at, all-intro}
-use Rattle.geometry.specs.declared.Position.{Position}
-use Rattle.geometry.specs.Volume.{InRange, inBox}
+use Rattle.geometry.specs.Volume.{inBox}
 use Rattle.geometry.proofs.Ranges.{box-in}
 use Rattle.mesh.specs.declared.Mesh.{Mesh}
-use Rattle.mesh.specs.Tables.{Tables, pointCapacity, cellCapacity, cellOf, opposite, pointIn, corner, cornerAt, cellVolume, tables}
+use Rattle.mesh.specs.Tables.{Tables, pointCapacity, cellCapacity, cellOf, opposite, pointIn, corner, across, cornerAt, cellVolume, freed, live, IsCell, tables}
+use Rattle.mesh.specs.Chain.{freedEntry, chainOk}
 use Rattle.mesh.specs.Mesh.{LegalSide}
-use Rattle.mesh.specs.Check.{sameZ, countsOk, boxOk, usedOk, cellOk, faceOk, isMesh, legalBox}
-use Rattle.mesh.specs.Start.{short}
-use Rattle.mesh.specs.Inner.{Placed, Celled, Sound, Solid, CornersBelow}
+use Rattle.mesh.specs.Check.{sameZ, countsOk, boxOk, usedOk, cellOk, faceOk, meshCheck, entriesOk, isMesh}
+use Rattle.mesh.specs.Inner.{Placed, Celled, Sound, CornersBelow}
 use Rattle.mesh.specs.Inner.Faces.{faceNumbers, facesOf}
-use Rattle.mesh.proofs.FaceNumbers.{face-eq, opposite<, cell<}
+use Rattle.mesh.specs.Inner.Cells.{entryOk, cellsPass}
+use Rattle.mesh.proofs.FaceNumbers.{face-eq, face-cell, opposite<}
 use Rattle.mesh.proofs.Room.{room-of}
 use Rattle.mesh.proofs.Numbers.{face-numbers-is}
 use Rattle.mesh.proofs.Checked.{Counts, counts-of, Parts, parts-of, parts-yes, same-is}
-use Rattle.mesh.specs.Refusal.{meshRefusal}
-use Rattle.mesh.specs.Inner.Cells.{cellsPass}
+
+-- the chain is read off corners and neighbours
+chain-same : (ps cs ns : List ℕ) (n k h : ℕ) → chainOk (tables [] cs ns) n k h ≡ chainOk (tables ps cs ns) n k h
+unfolding chainOk freedEntry freed corner across
+chain-same ps cs ns n zero h = refl
+chain-same ps cs ns n (suc k) h =
+    ap (λ b. ltb h n && (freedEntry (tables ps cs ns) h && b)) (chain-same ps cs ns n k (across (tables ps cs ns) (4 * h)))
 
 module _ (m : Mesh) (ps cs ns : List ℕ) (w : ℕ) where
   abbrev t : Tables
   t = tables ps cs ns
 
   abbrev countsPass : Bool
-  countsPass = countsOk (m .x) (m .y) (m .z) (pointCapacity t) (cellCapacity t w) (m .points) (m .cells)
+  countsPass = countsOk (m .x) (m .y) (m .z) (pointCapacity t) (cellCapacity t w) (m .points) (m .used)
 
   abbrev insidePass : Bool
   insidePass = allBelow (m .points) (λ k. inBox (m .x) (m .y) (m .z) (pointIn ps k))
 
   abbrev cellsOk : Bool
-  cellsOk = cellsPass (m .x) (m .y) (m .z) (tables ps cs []) (m .points) (m .cells)
+  cellsOk = cellsPass m (tables ps cs [])
 
-  parts : isMesh m t w ≡ true → Parts (m .x) (m .y) (m .z) (pointCapacity t) (cellCapacity t w) (m .points) (m .cells) t
-  parts = parts-of (m .x) (m .y) (m .z) (pointCapacity t) (cellCapacity t w) (m .points) (m .cells) t
+  abbrev chainPass : Bool
+  chainPass = chainOk (tables [] cs ns) (m .used) (m .used - m .cells) (m .chain)
+
+  abbrev meshPass : Bool
+  meshPass = meshCheck (m .x) (m .y) (m .z) (pointCapacity t) (cellCapacity t w) (m .points) (m .used) t
+
+  abbrev countPass : Bool
+  countPass = eqb (m .cells) (countBelow (m .used) (live t))
+
+  parts : isMesh m t w ≡ true → Parts (m .x) (m .y) (m .z) (pointCapacity t) (cellCapacity t w) (m .points) (m .used) t
+  unfolding isMesh
+  parts e = parts-of (m .x) (m .y) (m .z) (pointCapacity t) (cellCapacity t w) (m .points) (m .used) t (and-left meshPass (entriesOk m t) e)
+
+  entries : isMesh m t w ≡ true → (countPass && chainOk t (m .used) (m .used - m .cells) (m .chain)) ≡ true
+  unfolding isMesh entriesOk
+  entries e = and-right meshPass (entriesOk m t) e
 
   pub counts-fail : countsPass ≡ false → isMesh m t w ≡ false
   counts-fail e = fails (isMesh m t w) (λ h. clash (parts h .counts) e)
@@ -58,13 +77,19 @@ module _ (m : Mesh) (ps cs ns : List ℕ) (w : ℕ) where
   inside-fails e = fails (isMesh m t w) (λ h. clash (parts h .inside) e)
 
   pub cells-fail : cellsOk ≡ false → isMesh m t w ≡ false
-  unfolding cellsPass cellOk usedOk cellVolume cornerAt corner
-  cells-fail e = fails (isMesh m t w) (λ h. clash (and-intro (parts h .cells) (and-intro (parts h .used) (and-intro (le-leZ (≡→≤ (parts h .volumes))) (le-leZ (≡→≤ (sym (parts h .volumes))))))) e)
+  unfolding cellsPass cellOk usedOk cellVolume cornerAt live freed corner
+  cells-fail e =
+      fails (isMesh m t w) (λ h. clash
+      (and-intro (parts h .cells) (and-intro (parts h .used) (and-intro (and-intro (le-leZ (≡→≤ (parts h .volumes))) (le-leZ (≡→≤ (sym (parts h .volumes))))) (and-left countPass _ (entries h)))))
+      e)
+
+  pub chain-fails : chainPass ≡ false → isMesh m t w ≡ false
+  chain-fails e = fails (isMesh m t w) (λ h. clash (chain-same ps cs ns (m .used) (m .used - m .cells) (m .chain) ∙ and-right countPass _ (entries h)) e)
 
   -- ---- what a test that passed gives the next
 
-  counts : countsPass ≡ true → Counts (m .x) (m .y) (m .z) (pointCapacity t) (cellCapacity t w) (m .points) (m .cells)
-  counts = counts-of (m .x) (m .y) (m .z) (pointCapacity t) (cellCapacity t w) (m .points) (m .cells)
+  counts : countsPass ≡ true → Counts (m .x) (m .y) (m .z) (pointCapacity t) (cellCapacity t w) (m .points) (m .used)
+  counts = counts-of (m .x) (m .y) (m .z) (pointCapacity t) (cellCapacity t w) (m .points) (m .used)
 
   pub sides : countsPass ≡ true → LegalSide (m .x) × LegalSide (m .y) × LegalSide (m .z)
   sides e = (counts e .sideX, counts e .sideY, counts e .sideZ)
@@ -88,7 +113,7 @@ module _ (m : Mesh) (ps cs ns : List ℕ) (w : ℕ) where
             record { x≤ = omega (arith, b .x≤, k .sideX .high); y≤ = omega (arith, b .y≤, k .sideY .high); z≤ = omega (arith, b .z≤, k .sideZ .high) };
       }
 
-  pub celled : countsPass ≡ true → Celled cs (m .cells) × Celled ns (m .cells)
+  pub celled : countsPass ≡ true → Celled cs (m .used) × Celled ns (m .used)
   celled e =
       let r = room-of t w in
       let k = counts e in (
@@ -96,103 +121,95 @@ module _ (m : Mesh) (ps cs ns : List ℕ) (w : ℕ) where
         record { cells-few = omega (arith, r .cells≤, k .cells≤); cells-fit = omega (arith, r .neighbours-fit, k .cells≤) },
       )
 
-  pub sound : countsPass ≡ true → insidePass ≡ true → Sound ps cs ns (m .points) (m .cells)
+  pub sound : countsPass ≡ true → insidePass ≡ true → Sound ps cs ns (m .points) (m .used)
   sound e h = record { placed = placed e h; corners = celled e .0; neighbours = celled e .1 }
 
-  abbrev EachCell : Type 0
-  EachCell = (c : ℕ) → c < m .cells → cellOk t (m .points) c ≡ true
+  -- what the pass over the cells says, of the tables with neighbours
+  record Passed : Type 0 where
+    entries-ok : allBelow (m .used) (entryOk t (m .points)) ≡ true
+    used : allBelow (m .points) (usedOk t (m .used)) ≡ true
+    volumes : sum (m .used) (cellVolume t) ≡ pos (6 * m .x * m .y * m .z)
+    counted : countPass ≡ true
 
-  each-cell : cellsOk ≡ true → EachCell
-  unfolding cellsPass cellOk cellVolume cornerAt corner
-  each-cell e = all-at (m .cells) (cellOk t (m .points)) (and-left (allBelow (m .cells) (cellOk t (m .points))) _ e)
+  cells-passed : cellsOk ≡ true → Passed
+  unfolding cellsPass cellOk usedOk cellVolume cornerAt live freed corner
+  cells-passed e =
+      let rest = and-right (allBelow (m .used) (entryOk t (m .points))) _ e in
+      let sums = and-right (allBelow (m .points) (usedOk t (m .used))) _ rest in
+      let same : Bool = sameZ (sum (m .used) (cellVolume t)) (pos (6 * m .x * m .y * m .z)) in
+      record {
+        entries-ok = and-left (allBelow (m .used) (entryOk t (m .points))) _ e;
+        used = and-left (allBelow (m .points) (usedOk t (m .used))) _ rest;
+        volumes = same-is (and-left same _ sums);
+        counted = and-right same _ sums;
+      }
 
-  numbers-below : EachCell → CornersBelow cs (m .points) (m .cells)
-  unfolding cellOk corner
-  numbers-below each k l =
-      subst (λ j. getD cs j 0 < m .points) (face-eq k)
-      (ltb-true (corner t (cellOf k) (opposite k)) (m .points)
-      (all-at 4 (λ i. ltb (corner t (cellOf k) i) (m .points)) (and-left (allBelow 4 (λ i. ltb (corner t (cellOf k) i) (m .points))) _ (each (cellOf k) (cell< k l))) (opposite k) (opposite< k)))
+  each-cell : cellsOk ≡ true → (c : ℕ) → IsCell t (m .used) c → cellOk t (m .points) c ≡ true
+  unfolding live
+  each-cell e c h = or-other (freed t c) (cellOk t (m .points) c) (not-true (freed t c) (h .lives)) (all-at (m .used) (entryOk t (m .points)) (cells-passed e .entries-ok) c (h .below))
 
-  pub corners-below : cellsOk ≡ true → CornersBelow cs (m .points) (m .cells)
-  corners-below e = numbers-below (each-cell e)
-
-  positive : EachCell → (c : ℕ) → c < m .cells → pos 0 <ℤ cellVolume t c
+  corner< : cellsOk ≡ true → (c i : ℕ) → IsCell t (m .used) c → i < 4 → corner t c i < m .points
   unfolding cellOk
-  positive each c l = ltZ-true (pos 0) (cellVolume t c) (and-right (allBelow 4 (λ i. ltb (corner t c i) (m .points))) _ (each c l))
+  corner< e c i h l = ltb-true (corner t c i) (m .points) (all-at 4 (λ i. ltb (corner t c i) (m .points)) (and-left (allBelow 4 (λ i. ltb (corner t c i) (m .points))) _ (each-cell e c h)) i l)
+
+  pub corners-below : cellsOk ≡ true → CornersBelow cs (m .points) (m .used)
+  unfolding live freed corner
+  corners-below e c i h = corner< e c i record { below = h .below; lives = h .lives }
+
+  positive : cellsOk ≡ true → (c : ℕ) → IsCell t (m .used) c → pos 0 <ℤ cellVolume t c
+  unfolding cellOk
+  positive e c h = ltZ-true (pos 0) (cellVolume t c) (and-right (allBelow 4 (λ i. ltb (corner t c i) (m .points))) _ (each-cell e c h))
 
   -- ---- the faces decide
 
-  faces-are : countsPass ≡ true → cellsOk ≡ true →
-      allBelow (m .cells) (facesOf (m .x) (m .y) (m .z) t (m .cells)) ≡ allBelow (4 * m .cells) (faceOk (m .x) (m .y) (m .z) t (m .cells))
-  unfolding facesOf
+  abbrev faces : ℕ → Bool
+  faces = facesOf (m .x) (m .y) (m .z) t (m .used)
+
+  abbrev faceCheck : ℕ → Bool
+  faceCheck f = freed t (cellOf f) || faceOk (m .x) (m .y) (m .z) t (m .used) f
+
+  abbrev numbers : ℕ → ℕ → Bool
+  numbers = faceNumbers (m .x) (m .y) (m .z) t (m .used)
+
+  faces-are : countsPass ≡ true → cellsOk ≡ true → allBelow (m .used) faces ≡ allBelow (4 * m .used) faceCheck
+  unfolding facesOf live
   faces-are e h =
-      bool-ext (allBelow (m .cells) faces) (allBelow (4 * m .cells) test)
-      (λ k. all-intro (4 * m .cells) test (λ f l.
-      ap test (sym (face-eq f)) ∙ (sym (is (cellOf f) (opposite f) (cell< f l) (opposite< f)) ∙
-      four (cellOf f) (all-at (m .cells) faces k (cellOf f) (cell< f l)) (opposite f) (opposite< f))))
-      (λ k. all-intro (m .cells) faces (λ c l. all-intro 4 (numbers c) (λ i j. one k c i l j)))
+      bool-ext (allBelow (m .used) faces) (allBelow (4 * m .used) faceCheck)
+      (λ k. all-intro (4 * m .used) faceCheck (λ f l. go f l (all-at (m .used) faces k (cellOf f) (omega arith)) (split (freed t (cellOf f)))))
+      (λ k. all-intro (m .used) faces (λ c l. back c l (all-at (4 * m .used) faceCheck k) (split (freed t c))))
     where
-      faces : ℕ → Bool
-      faces = facesOf (m .x) (m .y) (m .z) t (m .cells)
+      is : (c i : ℕ) → c < m .used → freed t c ≡ false → i < 4 → numbers c i ≡ faceOk (m .x) (m .y) (m .z) t (m .used) (4 * c + i)
+      is c i l d =
+          face-numbers-is (m .x) (m .y) (m .z) t (m .used) (positive h) (λ c i k j. λ q. absurd (omega (arith, q, corner< h c i k j, points-room e .0)))
+          (celled e .1 .cells-fit) c i record { below = l; lives = ap not d }
 
-      test : ℕ → Bool
-      test = faceOk (m .x) (m .y) (m .z) t (m .cells)
+      go : (f : ℕ) → f < 4 * m .used → faces (cellOf f) ≡ true → (freed t (cellOf f) ≡ true) ⊎ (freed t (cellOf f) ≡ false) → faceCheck f ≡ true
+      go f l k (inl d) = or-left (freed t (cellOf f)) _ d
+      go f l k (inr d) =
+          or-right (freed t (cellOf f)) _
+          (ap (faceOk (m .x) (m .y) (m .z) t (m .used)) (sym (face-eq f)) ∙ (sym (is (cellOf f) (opposite f) (omega arith) d (opposite< f)) ∙
+          all-at 4 (numbers (cellOf f)) (or-other (freed t (cellOf f)) _ d k) (opposite f) (opposite< f)))
 
-      numbers : ℕ → ℕ → Bool
-      numbers = faceNumbers (m .x) (m .y) (m .z) t (m .cells)
+      back : (c : ℕ) → c < m .used → ((f : ℕ) → f < 4 * m .used → faceCheck f ≡ true) → (freed t c ≡ true) ⊎ (freed t c ≡ false) → faces c ≡ true
+      back c l k (inl d) = or-left (freed t c) _ d
+      back c l k (inr d) =
+          or-right (freed t c) _ (all-intro 4 (numbers c) (λ i j.
+          is c i l d j ∙ or-other (freed t (cellOf (4 * c + i))) _ (ap (freed t) (face-cell c i j) ∙ d) (k (4 * c + i) (omega arith))))
 
-      is : (c i : ℕ) → c < m .cells → i < 4 → numbers c i ≡ test (4 * c + i)
-      is = face-numbers-is (m .x) (m .y) (m .z) t (m .cells) (positive (each-cell h)) (celled e .1 .cells-fit)
-
-      four : (c : ℕ) → faces c ≡ true → (i : ℕ) → i < 4 → numbers c i ≡ true
-      four c q = all-at 4 (numbers c) q
-
-      one : allBelow (4 * m .cells) test ≡ true → (c i : ℕ) → c < m .cells → i < 4 → numbers c i ≡ true
-      one k c i l j = is c i l j ∙ all-at (4 * m .cells) test k (4 * c + i) (omega arith)
-
-  pub faces-decide : countsPass ≡ true → boxOk (m .x) (m .y) (m .z) (tables ps [] []) ≡ true → insidePass ≡ true → cellsOk ≡ true →
-      allBelow (m .cells) (facesOf (m .x) (m .y) (m .z) t (m .cells)) ≡ isMesh m t w
-  unfolding boxOk cellsPass cellOk usedOk cellVolume cornerAt corner
-  faces-decide e b i h =
-      faces-are e h ∙
-      bool-ext (allBelow (4 * m .cells) (faceOk (m .x) (m .y) (m .z) t (m .cells))) (isMesh m t w)
-      (λ f. parts-yes (m .x) (m .y) (m .z) (pointCapacity t) (cellCapacity t w) (m .points) (m .cells) t record {
+  pub faces-decide : countsPass ≡ true → boxOk (m .x) (m .y) (m .z) (tables ps [] []) ≡ true → insidePass ≡ true → cellsOk ≡ true → chainPass ≡ true →
+      allBelow (m .used) faces ≡ isMesh m t w
+  unfolding boxOk isMesh entriesOk
+  faces-decide e b i h g =
+      faces-are e h ∙ bool-ext (allBelow (4 * m .used) faceCheck) (isMesh m t w)
+      (λ f. and-intro
+      (parts-yes (m .x) (m .y) (m .z) (pointCapacity t) (cellCapacity t w) (m .points) (m .used) t record {
         counts = e;
         box = b;
         inside = i;
-        used = and-left (allBelow (m .points) (usedOk t (m .cells))) _ rest;
-        cells = and-left (allBelow (m .cells) (cellOk t (m .points))) _ h;
+        used = cells-passed h .used;
+        cells = cells-passed h .entries-ok;
         faces = f;
-        volumes = same-is (and-right (allBelow (m .points) (usedOk t (m .cells))) _ rest);
+        volumes = cells-passed h .volumes;
       })
+      (and-intro (cells-passed h .counted) (sym (chain-same ps cs ns (m .used) (m .used - m .cells) (m .chain)) ∙ g)))
       (λ k. parts k .faces)
-    where
-      rest : (allBelow (m .points) (usedOk t (m .cells)) && sameZ (sum (m .cells) (cellVolume t)) (pos (6 * m .x * m .y * m .z))) ≡ true
-      rest = and-right (allBelow (m .cells) (cellOk t (m .points))) _ h
-
-  -- ---- a mesh
-
-  pub in-range : isMesh m t w ≡ true → {q : Position} → inBox (m .x) (m .y) (m .z) q ≡ true → InRange q
-  in-range e {q} h =
-      let k = counts (parts e .counts) in
-      let b = box-in {X = m .x} {Y = m .y} {Z = m .z} {p = q} h in
-      record { x≤ = omega (arith, b .x≤, k .sideX .high); y≤ = omega (arith, b .y≤, k .sideY .high); z≤ = omega (arith, b .z≤, k .sideZ .high) }
-
-  pub solid : isMesh m t w ≡ true → Solid ps cs (m .points) (m .cells)
-  unfolding cellVolume cornerAt corner
-  solid e =
-      let p = parts e in
-      let each = all-at (m .cells) (cellOk t (m .points)) (p .cells) in
-      record { placed = placed (p .counts) (p .inside); celled = celled (p .counts) .0; below = numbers-below each; positive = positive each }
-
--- no refusal up to 3: a mesh
-pub passed : (m : Mesh) (t : Tables) (w : ℕ) (fewer : Bool) → meshRefusal m t w fewer ≡ 0 → isMesh m t w ≡ true
-unfolding meshRefusal
-passed m t w fewer e = go (split (fewer || short t w)) (split (legalBox (m .x) (m .y) (m .z))) (split (isMesh m t w)) e
-  where
-    go : ((fewer || short t w) ≡ true) ⊎ ((fewer || short t w) ≡ false) → (legalBox (m .x) (m .y) (m .z) ≡ true) ⊎ (legalBox (m .x) (m .y) (m .z) ≡ false) →
-        (isMesh m t w ≡ true) ⊎ (isMesh m t w ≡ false) → meshRefusal m t w fewer ≡ 0 → isMesh m t w ≡ true
-    go a b (inl c) e = c
-    go (inl a) b (inr c) e = absurd (omega (arith, rw a at e))
-    go (inr a) (inr b) (inr c) e = absurd (omega (arith, rw (a, b) at e))
-    go (inr a) (inl b) (inr c) e = absurd (omega (arith, rw (a, b, c) at e))

@@ -1,5 +1,5 @@
 -- A position of the box is on the inner side of every wall face (M5).
-use Prim.Native.Nat.{ℕ, _*_, _≤_, _<_}
+use Prim.Native.Nat.{ℕ, _≤_}
 use mathlib.Core.Logic.{_⊎_, inl, inr}
 use mathlib.Core.Path.{_≡_, sym, ap, ap₂, _∙_, subst}
 use lib.IntN.{ℤ, pos, negℤ, _+ℤ_, _-ℤ_, _*ℤ_, *ℤ-zero, *ℤ-comm}
@@ -11,9 +11,9 @@ use Rattle.arith.proofs.Sums.{sum-cong, sum-add, sum-neg, sum-times, sum-one}
 use Rattle.geometry.specs.declared.Position.{Position}
 use Rattle.geometry.specs.Volume.{volume, replaced, InBox}
 use Rattle.geometry.proofs.Algebra.{volume-split}
-use Rattle.mesh.specs.Tables.{Tables, none, cellOf, opposite, corner, across, cornerAt, cellVolume, side}
+use Rattle.mesh.specs.Tables.{Tables, none, cellOf, opposite, corner, across, cornerAt, cellVolume, side, IsFace}
 use Rattle.mesh.specs.Mesh.{Wall, low-x, low-y, low-z, high-x, high-y, high-z, along, level, OnWall, IsMesh}
-use Rattle.mesh.proofs.FaceNumbers.{opposite<, cell<}
+use Rattle.mesh.proofs.FaceNumbers.{opposite<}
 use Rattle.mesh.proofs.Held.{cramer}
 
 -- how far a point lies from a wall, inwards
@@ -79,7 +79,7 @@ module _ (X Y Z : ℕ) where
   depth-deep a b c high-y = omega (arithℤ, parts-sub (pos Y) (pos 0))
   depth-deep a b c high-z = omega (arithℤ, parts-sub (pos Z) (pos 0))
 
-module _ {X Y Z pc cc np n : ℕ} {t : Tables} (M : IsMesh X Y Z pc cc np n t) (f : ℕ) (f< : f < 4 * n) (bare : across t f ≡ none) where
+module _ {X Y Z pc cc np n : ℕ} {t : Tables} (M : IsMesh X Y Z pc cc np n t) (f : ℕ) (f< : IsFace t n f) (bare : across t f ≡ none) where
   abbrev o : OnWall X Y Z t f
   o = M .walls f f< bare
 
@@ -91,7 +91,7 @@ module _ {X Y Z pc cc np n : ℕ} {t : Tables} (M : IsMesh X Y Z pc cc np n t) (
 
   above : pos 0 <ℤ volume s
   unfolding cellVolume
-  above = M .positive (cellOf f) (cell< f f<)
+  above = M .positive (cellOf f) f<
 
   -- only the corner opposite to the face has depth
   by-apex : (q : Position) → volume (replaced s (opposite f) q) *ℤ h (s (opposite f)) ≡ volume s *ℤ h q
@@ -102,7 +102,7 @@ module _ {X Y Z pc cc np n : ℕ} {t : Tables} (M : IsMesh X Y Z pc cc np n t) (
 
   apex-in : InBox X Y Z (s (opposite f))
   unfolding cornerAt
-  apex-in = M .inside (corner t (cellOf f) (opposite f)) (M .corner< (cellOf f) (opposite f) (cell< f f<) (opposite< f))
+  apex-in = M .inside (corner t (cellOf f) (opposite f)) (M .corner< (cellOf f) (opposite f) f< (opposite< f))
 
   apex-deep : pos 0 <ℤ h (s (opposite f))
   apex-deep = go (trichotomy (pos 0) (h (s (opposite f))))

@@ -1,13 +1,14 @@
 -- The mesh check, as a test that computes: true for just the tables that are a mesh (`check-is` in proofs/Checked).
-use Prim.Native.Nat.{ℕ, _+_, _*_}
+use Prim.Native.Nat.{ℕ, _+_, _*_, _-_}
 use mathlib.Core.Bool.{Bool, _&&_, cond, _||_}
 use lib.Dec.{leb, ltb, eqb}
 use lib.IntN.{ℤ, pos}
 use lib.Signed.{ltZ, leZ}
-use Rattle.arith.specs.Table.{anyBelow, allBelow, sum}
+use Rattle.arith.specs.Table.{anyBelow, allBelow, countBelow, sum}
 use Rattle.geometry.specs.Volume.{maxSide, inBox, samePosition}
 use Rattle.mesh.specs.declared.Mesh.{Mesh}
-use Rattle.mesh.specs.Tables.{Tables, pointCapacity, cellCapacity, none, cellOf, opposite, point, corner, across, cornerAt, cellVolume, side, sameFace}
+use Rattle.mesh.specs.Tables.{Tables, pointCapacity, cellCapacity, none, cellOf, opposite, point, corner, across, cornerAt, cellVolume, side, sameFace, freed, live}
+use Rattle.mesh.specs.Chain.{chainOk}
 use Rattle.mesh.specs.Mesh.{boxCorner, Wall, low-x, low-y, low-z, high-x, high-y, high-z, along, level}
 
 abbrev pub sameZ : ℤ → ℤ → Bool
@@ -56,11 +57,16 @@ faceOk X Y Z t n f =
     cond (eqb (across t f) none) (someWall X Y Z t f)
     (ltb (across t f) n && anyBelow 4 (λ k. matedOk t f (4 * across t f + k)))
 
+-- cells, in tables with n entries in use; freed entries are no cells
 unfoldable pub meshCheck : ℕ → ℕ → ℕ → ℕ → ℕ → ℕ → ℕ → Tables → Bool
 meshCheck X Y Z pointCap cellCap np n t =
-    countsOk X Y Z pointCap cellCap np n && (boxOk X Y Z t && (pointsOk X Y Z np n t && (allBelow n (cellOk t np) &&
-    (allBelow (4 * n) (faceOk X Y Z t n) && sameZ (sum n (cellVolume t)) (pos (6 * X * Y * Z))))))
+    countsOk X Y Z pointCap cellCap np n && (boxOk X Y Z t && (pointsOk X Y Z np n t && (allBelow n (λ c. freed t c || cellOk t np c) &&
+    (allBelow (4 * n) (λ f. freed t (cellOf f) || faceOk X Y Z t n f) && sameZ (sum n (cellVolume t)) (pos (6 * X * Y * Z))))))
+
+-- 'the cell count must be the number of entries below the used length that aren't freed'; 'The mesh check covers the chain'
+unfoldable pub entriesOk : Mesh → Tables → Bool
+entriesOk m t = eqb (m .cells) (countBelow (m .used) (live t)) && chainOk t (m .used) (m .used - m .cells) (m .chain)
 
 -- the check of a record and tables, with a work area of w entries
-abbrev pub isMesh : Mesh → Tables → ℕ → Bool
-isMesh m t w = meshCheck (m .x) (m .y) (m .z) (pointCapacity t) (cellCapacity t w) (m .points) (m .cells) t
+unfoldable pub isMesh : Mesh → Tables → ℕ → Bool
+isMesh m t w = meshCheck (m .x) (m .y) (m .z) (pointCapacity t) (cellCapacity t w) (m .points) (m .used) t && entriesOk m t

@@ -12,7 +12,7 @@ use Rattle.geometry.specs.declared.Position.{Position}
 use Rattle.geometry.specs.declared.Tetrahedron.{Tetrahedron}
 use Rattle.geometry.specs.Volume.{InRange, volume}
 use Rattle.mesh.specs.declared.Cell.{Cell}
-use Rattle.mesh.specs.Tables.{Tables, tables, pointCapacity, cellCapacity, pointIn, cellVolume}
+use Rattle.mesh.specs.Tables.{Tables, tables, pointCapacity, cellCapacity, pointIn, cellVolume, IsCell}
 use Rattle.mesh.specs.Mesh.{IsMesh}
 use Rattle.mesh.specs.Check.{legalBox}
 
@@ -85,18 +85,18 @@ pub record Sound (ps cs ns : List ℕ) (np n : ℕ) : Type 0 where
   pub corners : Celled cs n
   pub neighbours : Celled ns n
 
--- every corner number of the first n cells is below np
+-- every corner number of the cells among n entries is below np
 abbrev pub CornersBelow : List ℕ → ℕ → ℕ → Type 0
-CornersBelow cs np n = (k : ℕ) → k < 4 * n → getD cs k 0 < np
+CornersBelow cs np n = (c i : ℕ) → IsCell (tables [] cs []) n c → i < 4 → getD cs (4 * c + i) 0 < np
 
--- n cells of positive volume over np points
+-- n entries whose cells have positive volumes, over np points
 pub record Solid (ps cs : List ℕ) (np n : ℕ) : Type 0 where
   pub placed : Placed ps np
   pub celled : Celled cs n
   pub below : CornersBelow cs np n
-  pub positive : (c : ℕ) → c < n → pos 0 <ℤ cellVolume (tables ps cs []) c
+  pub positive : (c : ℕ) → IsCell (tables [] cs []) n c → pos 0 <ℤ cellVolume (tables ps cs []) c
 
--- the tables t are a mesh of np points and n cells, in some box and with some work area
+-- the tables t are a mesh of np points and n entries in use, in some box and with some work area
 pub record SomeMesh (t : Tables) (np n : ℕ) : Type 0 where
   pub X : ℕ
   pub Y : ℕ

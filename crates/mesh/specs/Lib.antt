@@ -1,4 +1,5 @@
 pub mod Tables
+pub mod Chain
 pub mod Mesh
 pub mod Check
 pub mod Start

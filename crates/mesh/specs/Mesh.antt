@@ -6,10 +6,12 @@ use mathlib.Core.Path.{_≡_}
 use lib.Dec.{eqb}
 use lib.IntN.{pos}
 use lib.Signed.{_<ℤ_}
-use Rattle.arith.specs.Table.{sum}
+use Rattle.arith.specs.Table.{countBelow, sum}
 use Rattle.geometry.specs.declared.Position.{Position}
 use Rattle.geometry.specs.Volume.{maxSide, InBox}
-use Rattle.mesh.specs.Tables.{Tables, none, point, cellOf, opposite, corner, across, cornerAt, cellVolume, side}
+use Rattle.mesh.specs.declared.Mesh.{Mesh}
+use Rattle.mesh.specs.Tables.{Tables, pointCapacity, cellCapacity, none, point, cellOf, opposite, corner, across, cornerAt, cellVolume, side, live, IsCell, IsFace}
+use Rattle.mesh.specs.Chain.{Chained, chainOf}
 
 -- 'Sides X, Y, Z are each 1 to 131,072.'
 pub record LegalSide (s : ℕ) : Type 0 where
@@ -71,7 +73,7 @@ pub record Mated (t : Tables) (f g : ℕ) : Type 0 where
   pub back : across t g ≡ cellOf f
   pub far-side : side t (cornerAt t (cellOf g) (opposite g)) f <ℤ pos 0
 
--- v is 'a corner of some cell'
+-- v is 'a corner of some cell'; a point number is no 65,535, so that the entry is not freed
 pub record CornerOf (t : Tables) (n v : ℕ) : Type 0 where
   pub cell : ℕ
   pub place : ℕ
@@ -79,7 +81,8 @@ pub record CornerOf (t : Tables) (n v : ℕ) : Type 0 where
   pub place< : place < 4
   pub is : corner t cell place ≡ v
 
--- a mesh of np points and n cells in the box X, Y, Z, under the two capacities
+-- a mesh of np points and n entries in use, in the box X, Y, Z, under the two capacities; what is asked of cells is asked of live entries.
+-- (A freed entry has four times one corner, so its volume is 0 and the sum may run over all entries: `freed-volume` in proofs/Live.)
 pub record IsMesh (X Y Z pointCap cellCap np n : ℕ) (t : Tables) : Type 0 where
   pub pointCap≥ : 8 ≤ pointCap
   pub cellCap≥ : 6 ≤ cellCap
@@ -93,9 +96,16 @@ pub record IsMesh (X Y Z pointCap cellCap np n : ℕ) (t : Tables) : Type 0 wher
   pub boxCorners : (k : ℕ) → k < 8 → point t k ≡ boxCorner X Y Z k
   pub inside : (k : ℕ) → k < np → InBox X Y Z (point t k)
   pub used : (k : ℕ) → k < np → CornerOf t n k
-  pub corner< : (c i : ℕ) → c < n → i < 4 → corner t c i < np
-  pub across< : (f : ℕ) → f < 4 * n → across t f ≢ none → across t f < n
-  pub positive : (c : ℕ) → c < n → pos 0 <ℤ cellVolume t c
-  pub walls : (f : ℕ) → f < 4 * n → across t f ≡ none → OnWall X Y Z t f
-  pub mated : (f : ℕ) → f < 4 * n → across t f ≢ none → (g : ℕ) × Mated t f g
+  pub corner< : (c i : ℕ) → IsCell t n c → i < 4 → corner t c i < np
+  pub across< : (f : ℕ) → IsFace t n f → across t f ≢ none → across t f < n
+  pub positive : (c : ℕ) → IsCell t n c → pos 0 <ℤ cellVolume t c
+  pub walls : (f : ℕ) → IsFace t n f → across t f ≡ none → OnWall X Y Z t f
+  pub mated : (f : ℕ) → IsFace t n f → across t f ≢ none → (g : ℕ) × Mated t f g
   pub volumes : sum n (cellVolume t) ≡ pos (6 * X * Y * Z)
+
+-- the record m and the tables t, with a work area of w entries: the cells are a mesh, the chain has just the freed entries, and the cell
+-- count is 'the number of entries below the used length that aren't freed'
+pub record ValidMesh (m : Mesh) (t : Tables) (w : ℕ) : Type 0 where
+  pub mesh : IsMesh (m .x) (m .y) (m .z) (pointCapacity t) (cellCapacity t w) (m .points) (m .used) t
+  pub counted : m .cells ≡ countBelow (m .used) (live t)
+  pub chained : Chained t (m .used) (m .chain) (chainOf m t)

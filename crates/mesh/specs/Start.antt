@@ -8,7 +8,7 @@ use lib.ListN.{length, drop}
 use Rattle.mesh.specs.declared.Mesh.{Mesh}
 use Rattle.mesh.specs.declared.Started.{Started}
 use Rattle.mesh.specs.declared.Started.the-variants.{Accepted, Refused}
-use Rattle.mesh.specs.Tables.{Tables, pointCapacity, cellCapacity, cleared}
+use Rattle.mesh.specs.Tables.{Tables, pointCapacity, cellCapacity, cleared, none}
 use Rattle.mesh.specs.Check.{legalBox}
 
 -- the first entries of old replaced by new
@@ -39,8 +39,9 @@ started X Y Z t =
       neighbours = over startNeighbours (t .neighbours);
     }
 
+-- 'A running table starts with an empty chain.'
 abbrev pub startedMesh : ℕ → ℕ → ℕ → Mesh
-startedMesh X Y Z = record { x = X; y = Y; z = Z; points = 8; cells = 6 }
+startedMesh X Y Z = record { x = X; y = Y; z = Z; points = 8; cells = 6; chain = none; used = 6 }
 
 -- refusal 1, 'short': 'point capacity below 8, cell capacity below 6'
 unfoldable pub short : Tables → ℕ → Bool

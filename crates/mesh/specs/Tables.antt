@@ -1,7 +1,8 @@
 -- The lent tables, cells and faces: document 01, 'Box, tables and sizes'.
-use Prim.Native.Nat.{ℕ, _+_, _*_, _/_, _%_, min}
-use mathlib.Core.Bool.{Bool, not, _&&_, cond, _||_}
+use Prim.Native.Nat.{ℕ, _+_, _*_, _/_, _%_, _<_, min}
+use mathlib.Core.Bool.{Bool, true, not, _&&_, cond, _||_}
 use mathlib.Core.List.{List}
+use mathlib.Core.Path.{_≡_}
 use lib.Dec.{eqb}
 use lib.ListN.{length, getD, replicate}
 use lib.IntN.{ℤ}
@@ -66,6 +67,22 @@ opposite f = f % 4
 
 unfoldable pub corner : Tables → ℕ → ℕ → ℕ
 corner t c i = getD (t .corners) (4 * c + i) 0
+
+-- 'a freed entry has four corners of 65,535'
+unfoldable pub freed : Tables → ℕ → Bool
+freed t c = allBelow 4 (λ i. eqb (corner t c i) none)
+
+unfoldable pub live : Tables → ℕ → Bool
+live t c = not (freed t c)
+
+-- entry c is a cell of tables with n entries in use
+pub record IsCell (t : Tables) (n c : ℕ) : Type 0 where
+  pub below : c < n
+  pub lives : live t c ≡ true
+
+-- face f is a face of a cell
+abbrev pub IsFace : Tables → ℕ → ℕ → Type 0
+IsFace t n f = IsCell t n (cellOf f)
 
 -- 'neighbour i lies across it'
 unfoldable pub across : Tables → ℕ → ℕ

@@ -1,6 +1,7 @@
 // The mesh record, its lent tables, what a mesh is, and what a start leaves. Definitions and laws: the code is in the crates mesh_*.
 
-// Sides, point count and cell count; C has it as gantry_mesh (include/gantry.h), whose layout is fixed.
+// Sides, point count, cell count, the chain's first number (65,535 where it is empty) and how many entries of the cell tables are in
+// use; C has it as gantry_mesh (include/gantry.h), whose layout is fixed.
 #[repr(C)]
 pub struct Mesh {
     pub x: u32,
@@ -8,6 +9,8 @@ pub struct Mesh {
     pub z: u32,
     pub points: u32,
     pub cells: u32,
+    pub chain: u32,
+    pub used: u32,
 }
 
 // Four corner numbers and four neighbour numbers; 65,535 is no neighbour.

@@ -4,7 +4,7 @@ ghost use mathlib.Core.List.{[]};
 ghost use mathlib.Core.Path.{_≡_};
 ghost use mathlib.Core.Bool.{_&&_, cond};
 ghost use lib.Dec.{leb, eqb};
-ghost use Prim.Native.Nat.{_≤_, _*_};
+ghost use Prim.Native.Nat.{_≤_};
 ghost use lib.ListN.{length};
 ghost use Rattle.mesh.specs.Tables.{tables, tablesBefore, cleared};
 ghost use Rattle.mesh.specs.Mesh.{boxCorner};
@@ -14,6 +14,7 @@ use geometry::Position;
 use geometry::volume::same_position;
 use mesh::Mesh;
 use mesh_cells::cells_pass;
+use mesh_chain::chain_passes;
 use mesh_faces::faces_pass;
 use mesh_sizes::cell_capacity;
 use mesh_sizes::legal_box;
@@ -66,7 +67,7 @@ fn count_in(low: usize, count: u32, high: usize) -> bool
 }
 
 fn counts_pass(mesh: Mesh, points: usize, cells: usize) -> bool
-    ensures { λ r. ⌜ r ≡ countsOk (mesh .x) (mesh .y) (mesh .z) points cells (mesh .points) (mesh .cells) ⌝ }
+    ensures { λ r. ⌜ r ≡ countsOk (mesh .x) (mesh .y) (mesh .z) points cells (mesh .points) (mesh .used) ⌝ }
 {
     if points < 8 {
         return false;
@@ -80,7 +81,7 @@ fn counts_pass(mesh: Mesh, points: usize, cells: usize) -> bool
     if !count_in(8, mesh.points, points) {
         return false;
     }
-    count_in(1, mesh.cells, cells)
+    count_in(1, mesh.used, cells)
 }
 
 // The mesh check, with a work area of this length.
@@ -99,6 +100,9 @@ pub fn is_mesh(mesh: Mesh, points: &[u32], corners: &[u16], neighbours: &[u16], 
         return false;
     }
     if !cells_pass(mesh, points, corners) {
+        return false;
+    }
+    if !chain_passes(mesh, corners, neighbours) {
         return false;
     }
     faces_pass(mesh, points, corners, neighbours)

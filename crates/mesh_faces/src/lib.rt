@@ -9,6 +9,7 @@ ghost use Rattle.mesh.specs.Inner.{Sound, CornersBelow};
 ghost use Rattle.mesh.specs.Inner.Faces.{first, second, third, placeIn, oddOrder, facesBack, faceTest, facesOf};
 use mesh::Cell;
 use mesh::Mesh;
+use mesh_tables::is_freed;
 use mesh_tables::load;
 use mesh_tables::other_places;
 use mesh_tables::point_at;
@@ -95,9 +96,9 @@ fn faces_back(face: Face, far: Cell) -> bool
 }
 
 fn face_passes(mesh: Mesh, points: &[u32], corners: &[u16], neighbours: &[u16], face: Face) -> bool
-    requires { ⌜ Sound (now points) (now corners) (now neighbours) (mesh .points) (mesh .cells) × (face .place < 4)
+    requires { ⌜ Sound (now points) (now corners) (now neighbours) (mesh .points) (mesh .used) × (face .place < 4)
         × (face .p < mesh .points) × (face .q < mesh .points) × (face .r < mesh .points) ⌝ }
-    ensures { λ s. ⌜ s ≡ faceTest (mesh .x) (mesh .y) (mesh .z) (tablesBefore points corners neighbours) (mesh .cells)
+    ensures { λ s. ⌜ s ≡ faceTest (mesh .x) (mesh .y) (mesh .z) (tablesBefore points corners neighbours) (mesh .used)
         (face .cell) (face .place) (face .p) (face .q) (face .r) (face .across) ⌝ }
 {
     let u = face.across;
@@ -107,12 +108,13 @@ fn face_passes(mesh: Mesh, points: &[u32], corners: &[u16], neighbours: &[u16], 
         let r = point_at(points, face.r as usize);
         return on_one_wall(mesh.x, mesh.y, mesh.z, p, q, r);
     }
-    if mesh.cells <= u as u32 {
+    if mesh.used <= u as u32 {
         return false;
     }
     faces_back(face, load(corners, neighbours, u as usize))
 }
 
+// A freed entry has no faces.
 fn cell_faces_pass(
     mesh: Mesh,
     points: &[u32],
@@ -120,11 +122,15 @@ fn cell_faces_pass(
     neighbours: &[u16],
     c: usize,
 ) -> bool
-    requires { ⌜ Sound (now points) (now corners) (now neighbours) (mesh .points) (mesh .cells) × (c < mesh .cells)
-        × CornersBelow (now corners) (mesh .points) (mesh .cells) ⌝ }
-    ensures { λ s. ⌜ s ≡ facesOf (mesh .x) (mesh .y) (mesh .z) (tablesBefore points corners neighbours) (mesh .cells) c ⌝ }
+    requires { ⌜ Sound (now points) (now corners) (now neighbours) (mesh .points) (mesh .used) × (c < mesh .used)
+        × CornersBelow (now corners) (mesh .points) (mesh .used) ⌝ }
+    ensures { λ s. ⌜ s ≡ facesOf (mesh .x) (mesh .y) (mesh .z) (tablesBefore points corners neighbours) (mesh .used) c ⌝ }
 {
     let cell = load(corners, neighbours, c);
+    let k = cell.corners;
+    if is_freed(k) {
+        return true;
+    }
     let mut i: usize = 0;
     while i < 4 {
         if !face_passes(mesh, points, corners, neighbours, face_of(c, cell, i)) {
@@ -137,12 +143,12 @@ fn cell_faces_pass(
 
 // Every face of every cell.
 pub fn faces_pass(mesh: Mesh, points: &[u32], corners: &[u16], neighbours: &[u16]) -> bool
-    requires { ⌜ Sound (now points) (now corners) (now neighbours) (mesh .points) (mesh .cells)
-        × CornersBelow (now corners) (mesh .points) (mesh .cells) ⌝ }
-    ensures { λ s. ⌜ s ≡ allBelow (mesh .cells)
-        (facesOf (mesh .x) (mesh .y) (mesh .z) (tablesBefore points corners neighbours) (mesh .cells)) ⌝ }
+    requires { ⌜ Sound (now points) (now corners) (now neighbours) (mesh .points) (mesh .used)
+        × CornersBelow (now corners) (mesh .points) (mesh .used) ⌝ }
+    ensures { λ s. ⌜ s ≡ allBelow (mesh .used)
+        (facesOf (mesh .x) (mesh .y) (mesh .z) (tablesBefore points corners neighbours) (mesh .used)) ⌝ }
 {
-    let n = mesh.cells as usize;
+    let n = mesh.used as usize;
     let mut c: usize = 0;
     while c < n {
         if !cell_faces_pass(mesh, points, corners, neighbours, c) {

@@ -145,5 +145,7 @@ pub fn start(
         z: z,
         points: 8,
         cells: 6,
+        chain: 65535,
+        used: 6,
     })
 }

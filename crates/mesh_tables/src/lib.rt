@@ -7,6 +7,7 @@ ghost use Rattle.arith.specs.Table.{allBelow};
 ghost use Rattle.geometry.specs.Volume.{inBox};
 ghost use Rattle.mesh.specs.Tables.{cleared, pointIn};
 ghost use Rattle.mesh.specs.Inner.{fourAt, withFour, withPoint, cellAt, positionsOf, HasCell, HasPoint};
+ghost use Rattle.mesh.specs.Inner.Cells.{fourFreed};
 ghost use Rattle.mesh.specs.Inner.Faces.{first, second, third};
 use geometry::Position;
 use geometry::Tetrahedron;
@@ -81,6 +82,22 @@ pub fn four_at(s: &[u16], c: usize) -> [u16; 4]
 {
     let at = 4 * c;
     [s[at], s[at + 1], s[at + 2], s[at + 3]]
+}
+
+// Whether the entry with the corners k is freed.
+pub fn is_freed(k: [u16; 4]) -> bool
+    ensures { λ r. ⌜ r ≡ fourFreed k ⌝ }
+{
+    if k[3] != 65535 {
+        return false;
+    }
+    if k[2] != 65535 {
+        return false;
+    }
+    if k[1] != 65535 {
+        return false;
+    }
+    k[0] == 65535
 }
 
 // The places of a cell other than i, rising: those of the corners of face i.

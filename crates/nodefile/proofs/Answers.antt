@@ -18,9 +18,9 @@ use Rattle.mesh.specs.Tables.{Tables, pointCapacity, cellCapacity, cleared}
 use Rattle.mesh.specs.Check.{legalBox}
 use Rattle.mesh.specs.Start.{over}
 use Rattle.mesh.specs.Inner.{Placed}
-use Rattle.mesh.proofs.Checked.{Counts, counts-of, parts-of}
+use Rattle.mesh.specs.Mesh.{IsMesh}
 use Rattle.mesh.specs.Refusal.{meshRefusal}
-use Rattle.mesh.proofs.Verdict.{passed, solid}
+use Rattle.mesh.proofs.Valid.{valid-of, passed, solid}
 use Rattle.nodefile.specs.declared.Header.{Header}
 use Rattle.nodefile.specs.declared.Read.the-variants.{Nodes, Refused as ReadRefused}
 use Rattle.nodefile.specs.declared.Written.the-variants.{Bytes, Refused as WriteRefused}
@@ -185,17 +185,15 @@ unfolding nodesOf nodeCount
 nodes-part m ps = let e : 3 * m .points - 24 ≡ 3 * nodeCount m = omega arith in ap (λ c. take c (drop 24 ps)) e
 
 module _ (m : Mesh) (t : Tables) (w : ℕ) where
-  pub counts : meshRefusal m t w false ≡ 0 → Counts (m .x) (m .y) (m .z) (pointCapacity t) (cellCapacity t w) (m .points) (m .cells)
-  counts e =
-      counts-of (m .x) (m .y) (m .z) (pointCapacity t) (cellCapacity t w) (m .points) (m .cells)
-      (parts-of (m .x) (m .y) (m .z) (pointCapacity t) (cellCapacity t w) (m .points) (m .cells) t (passed m t w false e) .counts)
+  pub file-mesh : meshRefusal m t w false ≡ 0 → IsMesh (m .x) (m .y) (m .z) (pointCapacity t) (cellCapacity t w) (m .points) (m .used) t
+  file-mesh e = valid-of m t w (passed m t w false e) .mesh
 
   pub placed : meshRefusal m t w false ≡ 0 → Placed (t .points) (m .points)
   placed e = solid m (t .points) (t .corners) (t .neighbours) w (passed m t w false e) .placed
 
   length-here : meshRefusal m t w false ≡ 0 → length (meshFile m (t .points)) ≡ 12 * nodeCount m + 20
   unfolding headerOf
-  length-here e = file-length (headerOf m) (nodesOf m (t .points)) (nodes-length m (t .points) (counts e .points≥) (placed e .points-fit))
+  length-here e = file-length (headerOf m) (nodesOf m (t .points)) (nodes-length m (t .points) (file-mesh e .points≥) (placed e .points-fit))
 
   module _ (room : ℕ) where
     -- the mesh's own refusals come first
@@ -222,7 +220,7 @@ module _ (m : Mesh) (t : Tables) (w : ℕ) where
     writable e =
         let q = writes-mesh e in
         record {
-          points≥ = counts q .points≥;
+          points≥ = file-mesh q .points≥;
           points≤ = placed q .points-few;
           points-fit = placed q .points-fit;
           room≥ = go (decLt room (12 * nodeCount m + 20));

@@ -26,7 +26,7 @@ use Rattle.nodefile.specs.Read.{trailer, header, distance, readRefusal, 
 use Rattle.nodefile.specs.Write.{nodeCount, nodesOf, trailerOf, fileOf, headerOf, meshFile, writeRefusal, writeAnswer, writeOutput, WriteLeaves}
 use Rattle.nodefile.specs.RoundTrip.{IsBytes, HoldsRead}
 use Rattle.nodefile.proofs.Digits.{Words, numbers-length, numbers-of-bytes, bytes-of-numbers, bytes-append}
-use Rattle.nodefile.proofs.Answers.{Accepted, accepted, accept, nodes-length, records-length, file-length, counts, placed, writes-mesh}
+use Rattle.nodefile.proofs.Answers.{Accepted, accepted, accept, nodes-length, records-length, file-length, file-mesh, placed, writes-mesh}
 
 -- ---- a mesh's numbers are 32-bit
 
@@ -119,12 +119,12 @@ module _ (h : Header) (ns : List ℕ) (l : Legal h ns) where
 
 module _ (m : Mesh) (t : Tables) (w : ℕ) (e : meshRefusal m t w false ≡ 0) where
   nodes-of-mesh : length (nodesOf m (t .points)) ≡ 3 * nodeCount m
-  nodes-of-mesh = nodes-length m (t .points) (counts m t w e .points≥) (placed m t w e .points-fit)
+  nodes-of-mesh = nodes-length m (t .points) (file-mesh m t w e .points≥) (placed m t w e .points-fit)
 
   legal-mesh : Legal (headerOf m) (nodesOf m (t .points))
   unfolding nodesOf nodeCount headerOf
   legal-mesh =
-      let c = counts m t w e in
+      let c = file-mesh m t w e in
       record {
         sideX = c .sideX;
         sideY = c .sideY;

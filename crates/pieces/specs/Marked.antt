@@ -12,12 +12,12 @@ use Rattle.insphere.specs.declared.Sphere.{Sphere}
 use Rattle.insphere.specs.declared.Sphere.the-variants.{Inside}
 use Rattle.geometry.specs.Volume.{position, squaredDistance}
 use Rattle.insphere.specs.Sphere.{sphereAnswer}
-use Rattle.mesh.specs.Tables.{Tables, none, cornerAt, cellVolume, side}
+use Rattle.mesh.specs.Tables.{Tables, none, cornerAt, cellVolume, side, live}
 use Rattle.cavity.specs.Answers.{sphere, handed, saysYes}
 use Rattle.cavity.specs.Cavity.{inSet, base, coplanar, cornersGood, cavityOf}
 use Rattle.insertion.specs.declared.Inserted.the-variants.{Accepted, Refused}
 use Rattle.calls.specs.Calls.{startBuild, by-sphere}
-use Rattle.pieces.specs.Piece.{Piece, cell, counts, float, lent, reached, given, expected}
+use Rattle.pieces.specs.Piece.{Piece, cell, freed, counts, float, lent, reached, given, expected}
 
 -- '(1,2,3)', 'Inserted: spot 6, made 12, 12 cells.', in tables with so much room
 unfoldable pub inserted : ℕ → Piece
@@ -27,22 +27,27 @@ inserted room =
       before = [];
       node = position 1 2 3;
       answers = sphere;
-      answer = Accepted (counts 9 12) record { point = 8; before = 6; after = 6; made = 12; least = float 640 };
+      answer = Accepted (counts 9 12 5 18) record { point = 8; before = 6; after = 6; made = 12; least = float 640 };
       nodes = position 1 2 3 ∷ [];
-      cells =
-          cell 8 1 3 7 none 2 10 1 ∷
-          cell 0 1 3 8 0 3 11 none ∷
-          cell 8 3 2 7 none 4 0 3 ∷
-          cell 0 3 2 8 2 5 1 none ∷
-          cell 8 2 6 7 none 6 2 5 ∷
-          cell 0 2 6 8 4 7 3 none ∷
-          cell 8 6 4 7 none 8 4 7 ∷
-          cell 0 6 4 8 6 9 5 none ∷
-          cell 8 4 5 7 none 10 6 9 ∷
-          cell 0 4 5 8 8 11 7 none ∷
-          cell 8 5 1 7 none 0 8 11 ∷
-          cell 0 5 1 8 10 1 9 none ∷ [];
-      zeros = 6;
+      entries =
+          freed none ∷
+          freed 0 ∷
+          freed 1 ∷
+          freed 2 ∷
+          freed 3 ∷
+          freed 4 ∷
+          cell 8 1 3 7 none 8 16 7 ∷
+          cell 0 1 3 8 6 9 17 none ∷
+          cell 8 3 2 7 none 10 6 9 ∷
+          cell 0 3 2 8 8 11 7 none ∷
+          cell 8 2 6 7 none 12 8 11 ∷
+          cell 0 2 6 8 10 13 9 none ∷
+          cell 8 6 4 7 none 14 10 13 ∷
+          cell 0 6 4 8 12 15 11 none ∷
+          cell 8 4 5 7 none 16 12 15 ∷
+          cell 0 4 5 8 14 17 13 none ∷
+          cell 8 5 1 7 none 6 14 17 ∷
+          cell 0 5 1 8 16 7 15 none ∷ [];
     }
 
 -- '(2,2,0): base 0 and 1; two flat faces; 10 cells.'
@@ -53,20 +58,25 @@ on-wall =
       before = [];
       node = position 2 2 0;
       answers = sphere;
-      answer = Accepted (counts 9 10) record { point = 8; before = 6; after = 6; made = 10; least = float 512 };
+      answer = Accepted (counts 9 10 5 16) record { point = 8; before = 6; after = 6; made = 10; least = float 512 };
       nodes = position 2 2 0 ∷ [];
-      cells =
-          cell 8 1 3 7 none 1 8 none ∷
-          cell 8 3 2 7 none 2 0 none ∷
-          cell 8 2 6 7 none 4 1 3 ∷
-          cell 0 2 6 8 2 5 none none ∷
-          cell 8 6 4 7 none 6 2 5 ∷
-          cell 0 6 4 8 4 7 3 none ∷
-          cell 8 4 5 7 none 8 4 7 ∷
-          cell 0 4 5 8 6 9 5 none ∷
-          cell 8 5 1 7 none 0 6 9 ∷
-          cell 0 5 1 8 8 none 7 none ∷ [];
-      zeros = 6;
+      entries =
+          freed none ∷
+          freed 0 ∷
+          freed 1 ∷
+          freed 2 ∷
+          freed 3 ∷
+          freed 4 ∷
+          cell 8 1 3 7 none 7 14 none ∷
+          cell 8 3 2 7 none 8 6 none ∷
+          cell 8 2 6 7 none 10 7 9 ∷
+          cell 0 2 6 8 8 11 none none ∷
+          cell 8 6 4 7 none 12 8 11 ∷
+          cell 0 6 4 8 10 13 9 none ∷
+          cell 8 4 5 7 none 14 10 13 ∷
+          cell 0 4 5 8 12 15 11 none ∷
+          cell 8 5 1 7 none 6 12 15 ∷
+          cell 0 5 1 8 14 none 13 none ∷ [];
     }
 
 -- '(2,0,0): four flat faces; 8 cells.'
@@ -77,18 +87,23 @@ on-edge =
       before = [];
       node = position 2 0 0;
       answers = sphere;
-      answer = Accepted (counts 9 8) record { point = 8; before = 6; after = 6; made = 8; least = float 256 };
+      answer = Accepted (counts 9 8 5 14) record { point = 8; before = 6; after = 6; made = 8; least = float 256 };
       nodes = position 2 0 0 ∷ [];
-      cells =
-          cell 8 1 3 7 none 1 7 none ∷
-          cell 8 3 2 7 none 2 0 none ∷
-          cell 8 2 6 7 none 4 1 3 ∷
-          cell 0 2 6 8 2 5 none none ∷
-          cell 8 6 4 7 none 6 2 5 ∷
-          cell 0 6 4 8 4 none 3 none ∷
-          cell 8 4 5 7 none 7 4 none ∷
-          cell 8 5 1 7 none 0 6 none ∷ [];
-      zeros = 6;
+      entries =
+          freed none ∷
+          freed 0 ∷
+          freed 1 ∷
+          freed 2 ∷
+          freed 3 ∷
+          freed 4 ∷
+          cell 8 1 3 7 none 7 13 none ∷
+          cell 8 3 2 7 none 8 6 none ∷
+          cell 8 2 6 7 none 10 7 9 ∷
+          cell 0 2 6 8 8 11 none none ∷
+          cell 8 6 4 7 none 12 8 11 ∷
+          cell 0 6 4 8 10 none 9 none ∷
+          cell 8 4 5 7 none 13 10 none ∷
+          cell 8 5 1 7 none 6 12 none ∷ [];
     }
 
 -- a node refused: the started box as it was
@@ -101,14 +116,13 @@ refused room p e =
       answers = sphere;
       answer = Refused e;
       nodes = [];
-      cells =
+      entries =
           cell 0 1 3 7 none 1 5 none ∷
           cell 0 3 2 7 none 2 0 none ∷
           cell 0 2 6 7 none 3 1 none ∷
           cell 0 6 4 7 none 4 2 none ∷
           cell 0 4 5 7 none 5 3 none ∷
           cell 0 5 1 7 none 0 4 none ∷ [];
-      zeros = 0;
     }
 
 -- 'After (1,2,3), insert (2,2,2)', with every answer a and the cavity so large: 'made 6, 16 cells'
@@ -118,27 +132,28 @@ second a size =
       room = 18;
       before = by-sphere 54 (position 1 2 3) ∷ [];
       node = position 2 2 2;
-      answers = handed (replicate 12 a);
-      answer = Accepted (counts 10 16) record { point = 9; before = size; after = 2; made = 6; least = float 0 };
+      answers = handed (replicate 18 a);
+      answer = Accepted (counts 10 16 7 18) record { point = 9; before = size; after = 2; made = 6; least = float 0 };
       nodes = position 1 2 3 ∷ position 2 2 2 ∷ [];
-      cells =
-          cell 8 3 2 7 none 2 11 1 ∷
-          cell 0 3 2 8 0 3 13 none ∷
-          cell 8 2 6 7 none 4 0 3 ∷
-          cell 0 2 6 8 2 5 1 none ∷
-          cell 8 6 4 7 none 6 2 5 ∷
-          cell 0 6 4 8 4 7 3 none ∷
-          cell 8 4 5 7 none 8 4 7 ∷
-          cell 0 4 5 8 6 9 5 none ∷
-          cell 8 5 1 7 none 12 6 9 ∷
-          cell 0 5 1 8 8 14 7 none ∷
-          cell 9 1 3 7 none 11 12 15 ∷
-          cell 8 9 3 7 10 0 12 13 ∷
-          cell 8 1 9 7 10 11 8 14 ∷
-          cell 0 9 3 8 11 1 14 15 ∷
-          cell 0 1 9 8 12 13 9 15 ∷
-          cell 0 1 3 9 10 13 14 none ∷ [];
-      zeros = 2;
+      entries =
+          cell 0 1 3 9 5 2 1 none ∷
+          cell 0 1 9 8 3 2 17 0 ∷
+          cell 0 9 3 8 4 9 1 0 ∷
+          cell 8 1 9 7 5 4 16 1 ∷
+          cell 8 9 3 7 5 8 3 2 ∷
+          cell 9 1 3 7 none 4 3 0 ∷
+          freed none ∷
+          freed 6 ∷
+          cell 8 3 2 7 none 10 4 9 ∷
+          cell 0 3 2 8 8 11 2 none ∷
+          cell 8 2 6 7 none 12 8 11 ∷
+          cell 0 2 6 8 10 13 9 none ∷
+          cell 8 6 4 7 none 14 10 13 ∷
+          cell 0 6 4 8 12 15 11 none ∷
+          cell 8 4 5 7 none 16 12 15 ∷
+          cell 0 4 5 8 14 17 13 none ∷
+          cell 8 5 1 7 none 3 14 17 ∷
+          cell 0 5 1 8 16 1 15 none ∷ [];
     }
 
 unfoldable pub marked : List Piece
@@ -184,10 +199,10 @@ pub record MarkedPieces : Type 0 where
   -- '(2,0,0): four flat faces'
   pub flat-on-edge : countBelow 24 (coplanar (box 4) (position 2 0 0)) ≡ 4
   -- 'After (1,2,3), insert (2,2,2) with every answer yes: all but the base of two have a lost corner'
-  pub base-second : members 12 (base next 12 (position 2 2 2)) ≡ 0 ∷ 1 ∷ []
+  pub base-second : members 18 (base next 18 (position 2 2 2)) ≡ 6 ∷ 7 ∷ []
   pub lost-second :
-      let cavity = cavityOf next 12 (position 2 2 2) (λ c. true) in
-      allBelow 12 (λ c. inSet (base next 12 (position 2 2 2)) c || not (cornersGood next 12 (position 2 2 2) cavity c)) ≡ true
+      let cavity = cavityOf next 18 (position 2 2 2) (λ c. true) in
+      allBelow 18 (λ c. not (live next c) || (inSet (base next 18 (position 2 2 2)) c || not (cornersGood next 18 (position 2 2 2) cavity c))) ≡ true
   -- 'Side 131,072 each, P at half: cell 0 gives T = 3 × 2^83, inside.'
   pub T-half : answerAt (box 131072) (position 65536 65536 65536) 0 ≡ Inside (fin false 3 (pos 83))
   -- and what the insertions of the table answer and leave

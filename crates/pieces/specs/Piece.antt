@@ -1,5 +1,5 @@
 -- A piece: insertions in the box 4, 4, 4, with the last one's answer and the tables that it leaves.
-use Prim.Native.Nat.{ℕ, _+_, _*_, _-_}
+use Prim.Native.Nat.{ℕ, _*_, _-_}
 use mathlib.Core.List.{List, [], _∷_, _++_}
 use lib.IntN.{pos}
 use lib.ListN.{length, replicate}
@@ -7,7 +7,7 @@ use lib.Ieee.{Float, binary64, ofInt}
 use Rattle.geometry.specs.declared.Position.{Position}
 use Rattle.mesh.specs.declared.Mesh.{Mesh}
 use Rattle.mesh.specs.declared.Cell.{Cell}
-use Rattle.mesh.specs.Tables.{Tables, tables}
+use Rattle.mesh.specs.Tables.{Tables, tables, none}
 use Rattle.mesh.specs.Start.{startPoints}
 use Rattle.cavity.specs.Answers.{Answers}
 use Rattle.insertion.specs.declared.Inserted.{Inserted}
@@ -21,25 +21,28 @@ pub record Piece : Type 0 where
   pub before : List Call
   pub node : Position
   pub answers : Answers
-  -- expected: the answer, the nodes and cells in the tables, and how many cells past these are 0
+  -- expected: the answer, the nodes in the tables, and the entries in use
   pub answer : Inserted
   pub nodes : List Position
-  pub cells : List Cell
-  pub zeros : ℕ
+  pub entries : List Cell
 
 -- corners, then neighbours, as the listing program prints them
 abbrev pub cell : ℕ → ℕ → ℕ → ℕ → ℕ → ℕ → ℕ → ℕ → Cell
 cell a b c d p q r s = record { corners = a ∷ b ∷ c ∷ d ∷ []; neighbours = p ∷ q ∷ r ∷ s ∷ [] }
 
--- the record with so many points and cells
-abbrev pub counts : ℕ → ℕ → Mesh
-counts points cells = record { x = 4; y = 4; z = 4; points = points; cells = cells }
+-- a freed entry, with the next on the chain
+abbrev pub freed : ℕ → Cell
+freed next = cell none none none none next none none none
+
+-- the record with so many points and cells, the chain's first number and the used length
+abbrev pub counts : ℕ → ℕ → ℕ → ℕ → Mesh
+counts points cells chain used = record { x = 4; y = 4; z = 4; points = points; cells = cells; chain = chain; used = used }
 
 -- the 64-bit float n
 abbrev pub float : ℕ → Float
 float n = ofInt binary64 (pos n)
 
--- a node in a mesh of n cells, with every answer yes and room for 18 cells
+-- a node in a mesh with n entries in use, with every answer yes and room for 18 cells
 abbrev pub all-yes : ℕ → Position → Call
 all-yes n p = by-answers 54 (replicate n 1) p
 
@@ -59,10 +62,9 @@ unfoldable pub concatMap : {A : Type 0} → (A → List ℕ) → List A → List
 concatMap f [] = []
 concatMap f (x ∷ xs) = f x ++ concatMap f xs
 
--- a table's entries, those of so many cells 0, and the 9s that nobody wrote over
+-- a table's numbers, and the 9s that nobody wrote over
 unfoldable pub filled : Piece → List ℕ → List ℕ
-filled p entries =
-    entries ++ (replicate (4 * p .zeros) 0 ++ replicate (4 * (p .room - (length (p .cells) + p .zeros))) 9)
+filled p numbers = numbers ++ replicate (4 * (p .room - length (p .entries))) 9
 
 unfoldable pub expected : Piece → Result Inserted
 expected p =
@@ -71,6 +73,6 @@ expected p =
       tables =
           tables
           (startPoints 4 4 4 ++ (concatMap (λ q. q .x ∷ q .y ∷ q .z ∷ []) (p .nodes) ++ replicate (3 * (3 - length (p .nodes))) 9))
-          (filled p (concatMap (λ c. c .corners) (p .cells)))
-          (filled p (concatMap (λ c. c .neighbours) (p .cells)));
+          (filled p (concatMap (λ c. c .corners) (p .entries)))
+          (filled p (concatMap (λ c. c .neighbours) (p .entries)));
     }

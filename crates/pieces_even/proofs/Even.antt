@@ -14,9 +14,9 @@ even-nodes =
       settled = refl;
       inserted = refl;
       inserted-rounded = refl;
-      from-zero-visible = by-size 12 refl;
-      from-lost-corners-only = by-size 12 refl;
-      from-one-round = by-size 12 refl;
+      from-zero-visible = by-size 18 refl;
+      from-lost-corners-only = by-size 18 refl;
+      from-one-round = by-size 18 refl;
     }
 
 least-below-zero : LeastBelowZero

@@ -14,7 +14,7 @@ use Rattle.arith.specs.Table.{tabulate, selectBelow}
 use Rattle.geometry.specs.declared.Position.{Position}
 use Rattle.geometry.specs.Volume.{position}
 use Rattle.insphere.specs.Sphere.{zeroFloat}
-use Rattle.mesh.specs.Tables.{point}
+use Rattle.mesh.specs.Tables.{point, live}
 use Rattle.mesh.specs.Check.{sameZ}
 use Rattle.cavity.specs.Answers.{Answers, sphere, handed, cellE, cellT, saysYes}
 use Rattle.insertion.specs.declared.Inserted.the-variants.{Accepted}
@@ -30,30 +30,30 @@ one-node = meshAfter (startBuild 120000 80000 60000 (lent 30) 90) (by-sphere 90 
 unfoldable pub above : Position
 above = position 70000 30000 40000
 
--- E of cell c is 0
+-- c is a cell, and its E is 0
 unfoldable pub onSphere : ℕ → Bool
-onSphere c = sameZ (cellE (one-node .tables) above c) (pos 0)
+onSphere c = live (one-node .tables) c && sameZ (cellE (one-node .tables) above c) (pos 0)
 
 -- T of cell c is above 0: document 01's yes
 unfoldable pub roundedYes : ℕ → Bool
 roundedYes c = lt zeroFloat (cellT (one-node .tables) above c)
 
--- these answers as bytes
+-- these answers as bytes, one for each of the 18 entries in use
 unfoldable pub rounded : Answers
-rounded = handed (tabulate 12 (λ c. cond (roundedYes c) 1 0))
+rounded = handed (tabulate 18 (λ c. cond (roundedYes c) 1 0))
 
 pub record EvenNodes : Type 0 where
   -- eight of the twelve cells have it on their sphere; four of these have T above 0, and none answers yes
-  pub on-sphere : selectBelow 12 onSphere ≡ 0 ∷ 2 ∷ 4 ∷ 5 ∷ 7 ∷ 9 ∷ 10 ∷ 11 ∷ []
-  pub either-way : selectBelow 12 (λ c. onSphere c && roundedYes c) ≡ 0 ∷ 9 ∷ 10 ∷ 11 ∷ []
-  pub settled : selectBelow 12 (λ c. onSphere c && saysYes sphere (one-node .tables) above c) ≡ []
+  pub on-sphere : selectBelow 18 onSphere ≡ 6 ∷ 8 ∷ 10 ∷ 11 ∷ 13 ∷ 15 ∷ 16 ∷ 17 ∷ []
+  pub either-way : selectBelow 18 (λ c. onSphere c && roundedYes c) ≡ 6 ∷ 15 ∷ 16 ∷ 17 ∷ []
+  pub settled : selectBelow 18 (λ c. onSphere c && saysYes sphere (one-node .tables) above c) ≡ []
   -- the two cells of the cavity stay
   pub inserted : insertCall (one-node .mesh) (one-node .tables) 90 above sphere .answer ≡
-      Accepted record { x = 120000; y = 80000; z = 60000; points = 10; cells = 16 }
+      Accepted record { x = 120000; y = 80000; z = 60000; points = 10; cells = 16; chain = 14; used = 18 }
       record { point = 9; before = 2; after = 2; made = 6; least = fin false 4148483276367187 (pos 28) }
   -- by the rounded answers, of six cells four do not stay
   pub inserted-rounded : insertCall (one-node .mesh) (one-node .tables) 90 above rounded .answer ≡
-      Accepted record { x = 120000; y = 80000; z = 60000; points = 10; cells = 16 }
+      Accepted record { x = 120000; y = 80000; z = 60000; points = 10; cells = 16; chain = 14; used = 18 }
       record { point = 9; before = 6; after = 2; made = 6; least = float 0 }
   pub from-zero-visible : DiffersAt zero-visible one-node above rounded
   pub from-lost-corners-only : DiffersAt lost-corners-only one-node above rounded
@@ -71,11 +71,11 @@ unfoldable pub barely : Position
 barely = position 7461 3986 2802
 
 pub record LeastBelowZero : Type 0 where
-  -- E of cell 16 is above 0 and T = −2,773,504
-  pub exact : cellE (two-nodes .tables) barely 16 ≡ pos 480000
-  pub rounded-down : cellT (two-nodes .tables) barely 16 ≡ fin true 5417 (pos 9)
+  -- E of cell 20 is above 0 and T = −2,773,504
+  pub exact : cellE (two-nodes .tables) barely 20 ≡ pos 480000
+  pub rounded-down : cellT (two-nodes .tables) barely 20 ≡ fin true 5417 (pos 9)
   pub inserted : insertCall (two-nodes .mesh) (two-nodes .tables) 120 barely sphere .answer ≡
-      Accepted record { x = 120000; y = 8000; z = 8000; points = 11; cells = 23 }
+      Accepted record { x = 120000; y = 8000; z = 8000; points = 11; cells = 23; chain = 21; used = 32 }
       record { point = 10; before = 9; after = 9; made = 14; least = fin true 5417 (pos 9) }
 
 -- ---- answers handed in

@@ -31,6 +31,7 @@ marked-node =
       uncorrected = refl;
       base-alone = refl;
       two-for-one = refl;
+      freed-marked = refl;
       too-few = refl;
       full = refl;
     }

@@ -10,8 +10,8 @@ unfolding opened insertSorted sorted lexBefore sortedCorners earlierHolder first
 parked-head =
     record {
       held = refl;
-      corners-10 = refl;
-      corners-11 = refl;
+      corners-16 = refl;
+      corners-17 = refl;
       located = refl;
       outside = refl;
       located-again = refl;

@@ -26,15 +26,15 @@ unfoldable pub head : Position
 head = position 3 1 2
 
 pub record ParkedHead : Type 0 where
-  -- two of twelve cells hold it; the lowest-numbered one is not the one that comes first
-  pub held : selectBelow 12 (holds (before .tables) head) ≡ 10 ∷ 11 ∷ []
-  pub corners-10 : sortedCorners (before .tables) 10 ≡ 1 ∷ 5 ∷ 7 ∷ 8 ∷ []
-  pub corners-11 : sortedCorners (before .tables) 11 ≡ 0 ∷ 1 ∷ 5 ∷ 8 ∷ []
-  pub located : locateCall (before .mesh) (before .tables) 54 head ≡ Cell 11
-  -- the cell that comes first is outside the corrected cavity, and has another number then
-  pub outside : OutsideCavity (before .mesh) (before .tables) node sphere 11
-  pub located-again : locateCall (after .mesh) (after .tables) 54 head ≡ Cell 9
-  pub same-corners : sortedCorners (after .tables) 9 ≡ 0 ∷ 1 ∷ 5 ∷ 8 ∷ []
-  -- a new cell holds the head too
-  pub held-again : selectBelow 14 (holds (after .tables) head) ≡ 9 ∷ 13 ∷ []
-  pub new-cell : sortedCorners (after .tables) 13 ≡ 1 ∷ 5 ∷ 8 ∷ 9 ∷ []
+  -- of 18 entries two cells hold it; the lowest-numbered one is not the one that comes first
+  pub held : selectBelow 18 (holds (before .tables) head) ≡ 16 ∷ 17 ∷ []
+  pub corners-16 : sortedCorners (before .tables) 16 ≡ 1 ∷ 5 ∷ 7 ∷ 8 ∷ []
+  pub corners-17 : sortedCorners (before .tables) 17 ≡ 0 ∷ 1 ∷ 5 ∷ 8 ∷ []
+  pub located : locateCall (before .mesh) (before .tables) 54 head ≡ Cell 17
+  -- the cell that comes first is outside the corrected cavity, and keeps its number
+  pub outside : OutsideCavity (before .mesh) (before .tables) node sphere 17
+  pub located-again : locateCall (after .mesh) (after .tables) 54 head ≡ Cell 17
+  pub same-corners : sortedCorners (after .tables) 17 ≡ 0 ∷ 1 ∷ 5 ∷ 8 ∷ []
+  -- a new cell, under a freed number, holds the head too
+  pub held-again : selectBelow 18 (holds (after .tables) head) ≡ 2 ∷ 17 ∷ []
+  pub new-cell : sortedCorners (after .tables) 2 ≡ 1 ∷ 5 ∷ 8 ∷ 9 ∷ []

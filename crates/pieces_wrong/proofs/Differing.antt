@@ -28,10 +28,10 @@ unfolding opened zero-visible-history visibility-only-history lost-corners-only-
     visibleBy keepsBy facesGoodBy cornersGoodBy markedBy oneByOne prunedBy correctedBy
 each-differs =
     record {
-      from-zero-visible = by-size 9 refl;
-      from-visibility-only = by-size 8 refl;
-      from-lost-corners-only = by-size 9 refl;
-      from-coplanar-keeps = by-size 8 refl;
-      from-one-round = by-size 9 refl;
-      from-one-at-a-time = by-size 8 refl;
+      from-zero-visible = by-size 17 refl;
+      from-visibility-only = by-size 14 refl;
+      from-lost-corners-only = by-size 17 refl;
+      from-coplanar-keeps = by-size 14 refl;
+      from-one-round = by-size 17 refl;
+      from-one-at-a-time = by-size 14 refl;
     }

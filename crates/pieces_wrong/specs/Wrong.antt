@@ -82,7 +82,7 @@ module _ (r : Rule) (t : Tables) (n : ℕ) (p : Position) (b : List Bool) where
 abbrev pub DiffersAt : Rule → Build → Position → Answers → Type 0
 DiffersAt r b p a =
     let t = b .tables in
-    let n = b .mesh .cells in
+    let n = b .mesh .used in
     correctedBy r t n p (base t n p) (cavityOf t n p (saysYes a t p)) ≢ lastCavity (b .mesh) t p a
 
 -- on a piece's insertion

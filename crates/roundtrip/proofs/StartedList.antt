@@ -10,8 +10,8 @@ use Rattle.arith.proofs.Tables.{tabulate-at, tabulate-length}
 use Rattle.geometry.specs.declared.Position.{Position}
 use Rattle.mesh.specs.declared.Mesh.{Mesh}
 use Rattle.mesh.specs.declared.Started.the-variants.{Accepted}
-use Rattle.mesh.specs.Tables.{Tables, pointCapacity, cellCapacity, pointIn, point}
-use Rattle.mesh.specs.Mesh.{boxCorner, IsMesh}
+use Rattle.mesh.specs.Tables.{Tables, pointCapacity, pointIn, point}
+use Rattle.mesh.specs.Mesh.{boxCorner, ValidMesh}
 use Rattle.mesh.specs.Start.{StartLeaves}
 use Rattle.insertion.specs.declared.Listed.{Listed}
 use Rattle.insertion.specs.List.{listedNode, listedCount, listCall, ListLeaves}
@@ -31,13 +31,13 @@ claim-after-list {X} {Y} {Z} {t} {t₁} {t₂} {ws} {ws₁} {ws₂} {ws₃} {ns}
     rw (L .answer, L .tables) d
 
 module _ {X Y Z : ℕ} {m : Mesh} {t : Tables} {ps : List Position} (C : Claim X Y Z (built m t) ps) where
-  -- the tables as a mesh, with a work area that is long enough for its cells
-  pub claimed-mesh : IsMesh X Y Z (pointCapacity t) (cellCapacity t (18 + 3 * m .cells)) (m .points) (m .cells) t
-  claimed-mesh = C .mesh (18 + 3 * m .cells) (omega arith) (omega arith)
+  -- the tables as a mesh, with a work area that is long enough for the entries in use
+  pub claimed-mesh : ValidMesh m t (18 + 3 * m .used)
+  claimed-mesh = C .mesh (18 + 3 * m .used) (omega arith) (omega arith)
 
   points-long : 3 * m .points ≤ length (t .points)
   unfolding pointCapacity
-  points-long = omega (arith, claimed-mesh .points≤)
+  points-long = omega (arith, claimed-mesh .mesh .points≤)
 
   pub points-count : m .points ≡ 8 + length ps
   points-count =

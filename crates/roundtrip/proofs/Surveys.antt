@@ -1,5 +1,5 @@
 -- Two surveys in one mesh: the points are the box's corners and the nodes that are left, and every point is a corner of some cell.
-use Prim.Native.Nat.{ℕ, _*_, _<_}
+use Prim.Native.Nat.{ℕ, _+_, _*_, _<_}
 use mathlib.Core.Bool.{true, _||_}
 use mathlib.Core.List.{List, _++_}
 use mathlib.Core.Logic.{_⊎_, inl, inr}
@@ -14,6 +14,8 @@ use Rattle.geometry.specs.declared.Position.{Position}
 use Rattle.mesh.specs.declared.Mesh.{Mesh}
 use Rattle.mesh.specs.Tables.{Tables, point, cornerAt}
 use Rattle.mesh.specs.Mesh.{boxCorner}
+use Rattle.mesh.proofs.Room.{room-of}
+use Rattle.mesh.proofs.Live.{live-of}
 use Rattle.insertion.specs.List.{listedNode, listedCount}
 use Rattle.nodefile.specs.declared.Header.{Header}
 use Rattle.nodefile.specs.Read.{header, nodes}
@@ -26,6 +28,7 @@ use Rattle.merging.proofs.Filter.{positions-of}
 use Rattle.merging.proofs.Laws.{complete, merged-header, merged-nodes}
 use Rattle.roundtrip.specs.Through.{Built}
 use Rattle.roundtrip.specs.Surveys.{CornerAt, EverySurveyed}
+use Rattle.roundtrip.proofs.StartedList.{claimed-mesh}
 use Rattle.roundtrip.proofs.ThroughAMesh.{claim-built}
 
 module _ {first second : List ℕ} (M : Merged first second) {m : Mesh} {t : Tables} (B : Built (mergedFile first second) m t) where
@@ -56,17 +59,18 @@ module _ {first second : List ℕ} (M : Merged first second) {m : Mesh} {t : Tab
       ((λ i. tabulate 8 (boxCorner (head-is i .x) (head-is i .y) (head-is i .z)) ++ tabulate (listedCount (listed i)) (listedNode (listed i))) ∙
       ap (λ l. boxCorners (header first) ++ l) nodes-left)
 
-  corner-at : (p : Position) → among (surveyed first second) p ≡ true → CornerAt t (m .cells) p
+  corner-at : (p : Position) → among (surveyed first second) p ≡ true → CornerAt t (m .used) p
   unfolding cornerAt
   corner-at p e =
       let a = among-append (boxCorners (header first)) L p in
       let s = among-stands (tabulate (m .points) (point t)) p p (ap (λ l. among l p) points-are ∙ (a ∙ here (complete first second .all p e))) in
       let k : s .at < m .points = subst (λ n. s .at < n) (tabulate-length (m .points) (point t)) (s .below) in
       let u = claim-built B .used (s .at) k in
+      let M = claimed-mesh (claim-built B) .mesh in
       record {
         cell = u .cell;
         place = u .place;
-        cell< = u .cell<;
+        is-cell = record { below = u .cell<; lives = live-of t (u .cell) (u .place) (u .place<) (omega (arith, u .is, k, M .points≤, room-of t (18 + 3 * m .used) .points≤)) };
         place< = u .place<;
         is = ap (point t) (u .is) ∙ (sym (tabulate-at (m .points) (point t) (s .at) p k) ∙ s .is);
       }

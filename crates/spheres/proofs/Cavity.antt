@@ -8,30 +8,29 @@ use native.Mathlib.Omega.{arith}
 use native.Mathlib.Decide.{ℕ-discrete}
 use lib.IntN.{pos}
 use lib.Signed.{_<ℤ_, _≤ℤ_}
-use Rattle.arith.proofs.Flags.{clash, bool-ext, flag-below}
+use Rattle.arith.proofs.Flags.{clash, bool-ext}
 use Rattle.arith.proofs.Order.{arithℤ, <→≤, <-irrefl, ≤-<-trans, <-≤-trans, trichotomy, total, ltZ-true, lt-ltZ}
 use Rattle.geometry.specs.declared.Position.{Position}
 use Rattle.geometry.specs.Volume.{volume, replaced, InBox}
 use Rattle.insphere.proofs.Power.{power, sum-is-power, power-corner}
 use Rattle.insphere.proofs.Inside.{held-inside, crosses-in}
-use Rattle.mesh.specs.Tables.{Tables, none, cellOf, opposite, point, corner, across, cornerAt, cellVolume, side, mate}
+use Rattle.mesh.specs.Tables.{Tables, none, cellOf, opposite, point, corner, across, cornerAt, cellVolume, side, mate, IsCell, IsFace}
 use Rattle.mesh.specs.Mesh.{IsMesh}
 use Rattle.mesh.proofs.Room.{Room}
 use Rattle.mesh.proofs.Held.{side-at, Holds, other-weight}
-use Rattle.mesh.proofs.Faces.{few, link<, link-position, mated, mate<, mate-cell<, mate-real}
+use Rattle.mesh.proofs.Faces.{few, link<, link-position, mated, mate<, mate-real, across-cell}
 use Rattle.mesh.proofs.Links.{link}
-use Rattle.mesh.proofs.FaceNumbers.{face-cell, opposite<, cell<}
+use Rattle.mesh.proofs.FaceNumbers.{face-cell, face-in, opposite<}
 use Rattle.mesh.proofs.Walls.{wall-inner}
-use Rattle.locate.specs.Locate.{holds}
 use Rattle.cavity.specs.Answers.{sphere, cellE, saysYes}
 use Rattle.cavity.specs.Cavity.{inSet, base, cavity, visible, coplanar, outer}
 use Rattle.cavity.proofs.Tests.{Outer, outer-of, visible-yes, coplanar-yes, holds-of, holds-yes}
-use Rattle.cavity.proofs.Correction.{base-at, base-long, base-below, cavity-long, cavity-has}
+use Rattle.cavity.proofs.Correction.{base-at, base-long, base-cell, cavity-cells, cavity-has}
 use Rattle.cavity.proofs.Growth.{cavity-closed, cavity-least}
 use Rattle.covering.specs.Place.{whole}
-use Rattle.covering.specs.Holders.{Chain, here, step}
-use Rattle.covering.proofs.Linear.{form, form-whole}
-use Rattle.covering.proofs.Cover.{Reached, straight-walk}
+use Rattle.covering.specs.Holders.{FacePath, here, step}
+use Rattle.covering.proofs.Linear.{form, HoldsForm, form-whole}
+use Rattle.covering.proofs.Cover.{straight-walk, held}
 use Rattle.covering.proofs.Parts.{whole-in-box}
 use Rattle.spheres.specs.Exact.{Empty}
 
@@ -50,22 +49,22 @@ unfolding saysYes
 yes-yes t p c h = lt-ltZ h
 
 -- by omega, so that an edit of `Empty` is refused where it is to be shown and not where it is given
-pub point-out : {np n : ℕ} {t : Tables} → Empty np n t → (c k : ℕ) → c < n → k < np → cellE t (point t k) c ≤ℤ pos 0
+pub point-out : {np n : ℕ} {t : Tables} → Empty np n t → (c k : ℕ) → IsCell t n c → k < np → cellE t (point t k) c ≤ℤ pos 0
 point-out G c k l h = omega (arithℤ, G .outside c k l h)
 
 -- the cavity before correction
 abbrev pub exactCavity : Tables → ℕ → Position → List Bool
 exactCavity t n p = cavity t n (saysYes sphere t p) (base t n p)
 
-pub cavity-below : (t : Tables) (n : ℕ) (p : Position) (c : ℕ) → inSet (exactCavity t n p) c ≡ true → c < n
-cavity-below t n p c e = omega (arith, flag-below (exactCavity t n p) c e, cavity-long t n p (saysYes sphere t p) (base t n p) (base-long t n p))
+pub cavity-cell : (t : Tables) (n : ℕ) (p : Position) (c : ℕ) → inSet (exactCavity t n p) c ≡ true → IsCell t n c
+cavity-cell t n p = cavity-cells t n p (saysYes sphere t p) (base t n p) (base-cell t n p)
 
 module _ {X Y Z pc cc np n : ℕ} {t : Tables} (M : IsMesh X Y Z pc cc np n t) where
-  pub above : (c : ℕ) → c < n → pos 0 <ℤ volume (cornerAt t c)
+  pub above : (c : ℕ) → IsCell t n c → pos 0 <ℤ volume (cornerAt t c)
   above c h = unfold cellVolume in M .positive c h
 
   -- D3: a cell that holds p
-  holds-inside : (p : Position) → ((k : ℕ) → k < np → p ≢ point t k) → (c : ℕ) → c < n → Holds t p c → pos 0 <ℤ cellE t p c
+  holds-inside : (p : Position) → ((k : ℕ) → k < np → p ≢ point t k) → (c : ℕ) → IsCell t n c → Holds t p c → pos 0 <ℤ cellE t p c
   unfolding Holds
   holds-inside p new c c< h = at (other-weight (cornerAt t c) p 0 (omega arith) (above c c<) h (apart 0 (omega arith)))
     where
@@ -76,24 +75,24 @@ module _ {X Y Z pc cc np n : ℕ} {t : Tables} (M : IsMesh X Y Z pc cc np n t) w
       at (j, l, o) = subst (λ z. pos 0 <ℤ z) (sym (sphere-is t p c)) (held-inside (cornerAt t c) p h j l (o .1) (apart j l))
 
   module _ (R : Room pc cc t) where
-    shared : (f : ℕ) → f < 4 * n → across t f ≢ none → (i : ℕ) → i < 4 → i ≢ opposite f → power (cornerAt t (cellOf (mate t f))) (cornerAt t (cellOf f) i) ≡ pos 0
+    shared : (f : ℕ) → IsFace t n f → across t f ≢ none → (i : ℕ) → i < 4 → i ≢ opposite f → power (cornerAt t (cellOf (mate t f))) (cornerAt t (cellOf f) i) ≡ pos 0
     shared f f< real i h d =
         ap (power (cornerAt t (cellOf (mate t f)))) (sym (link-position M R f f< real i h d)) ∙
         power-corner (cornerAt t (cellOf (mate t f))) (link t f (mate t f) i) (link< M R f f< real i h)
 
     module _ (G : Empty np n t) where
       -- a corner of one cell is not inside the sphere of another
-      pub corner-out : (c d i : ℕ) → c < n → d < n → i < 4 → cellE t (cornerAt t c i) d ≤ℤ pos 0
+      pub corner-out : (c d i : ℕ) → IsCell t n c → IsCell t n d → i < 4 → cellE t (cornerAt t c i) d ≤ℤ pos 0
       unfolding cornerAt
       corner-out c d i hc hd hi = point-out G d (corner t c i) hd (M .corner< c i hc hi)
 
       -- D4: across a face that p is not strictly on the cell's side of
-      crossing : (p : Position) (f : ℕ) → f < 4 * n → across t f ≢ none → side t p f ≤ℤ pos 0 → pos 0 <ℤ cellE t p (cellOf f) → pos 0 <ℤ cellE t p (across t f)
+      crossing : (p : Position) (f : ℕ) → IsFace t n f → across t f ≢ none → side t p f ≤ℤ pos 0 → pos 0 <ℤ cellE t p (cellOf f) → pos 0 <ℤ cellE t p (across t f)
       unfolding side
       crossing p f f< real h e =
           subst (λ z. pos 0 <ℤ z) (sym (sphere-is t p u) ∙ ap (cellE t p) (mated M R f f< real .far-cell))
-          (crosses-in (cornerAt t c) (cornerAt t u) (opposite f) (opposite< f) (shared f f< real) (above c c<) (above u u<)
-          (subst (λ z. z ≤ℤ pos 0) (sphere-is t (cornerAt t c (opposite f)) u) (corner-out c u (opposite f) c< u< (opposite< f))) p h
+          (crosses-in (cornerAt t c) (cornerAt t u) (opposite f) (opposite< f) (shared f f< real) (above c f<) (above u u<)
+          (subst (λ z. z ≤ℤ pos 0) (sphere-is t (cornerAt t c (opposite f)) u) (corner-out c u (opposite f) f< u< (opposite< f))) p h
           (subst (λ z. pos 0 <ℤ z) (sphere-is t p c) e))
         where
           c : ℕ
@@ -102,14 +101,11 @@ module _ {X Y Z pc cc np n : ℕ} {t : Tables} (M : IsMesh X Y Z pc cc np n t) w
           u : ℕ
           u = cellOf (mate t f)
 
-          c< : c < n
-          c< = cell< f f<
-
-          u< : u < n
-          u< = mate-cell< M R f f< real
+          u< : IsCell t n u
+          u< = mate< M R f f< real
 
       -- D5: from a cell with p inside its sphere to one without, p is strictly on the first one's side
-      crossing-out : (p : Position) (f : ℕ) → f < 4 * n → across t f ≢ none → pos 0 <ℤ cellE t p (cellOf f) → cellE t p (across t f) ≤ℤ pos 0 → pos 0 <ℤ side t p f
+      crossing-out : (p : Position) (f : ℕ) → IsFace t n f → across t f ≢ none → pos 0 <ℤ cellE t p (cellOf f) → cellE t p (across t f) ≤ℤ pos 0 → pos 0 <ℤ side t p f
       crossing-out p f f< real e o = by (total (side t p f) (pos 0))
         where
           by : (side t p f ≤ℤ pos 0) ⊎ (pos 0 <ℤ side t p f) → pos 0 <ℤ side t p f
@@ -123,23 +119,23 @@ module _ {X Y Z pc cc np n : ℕ} {t : Tables} (M : IsMesh X Y Z pc cc np n t) w
         pub cavity-inside : (c : ℕ) → inSet s c ≡ true → pos 0 <ℤ cellE t p c
         cavity-inside =
             cavity-least M R (saysYes sphere t p) (base t n p) (base-long t n p) (λ c. pos 0 <ℤ cellE t p c)
-            (λ c e. holds-inside p new c (base-below t n p c e) (holds-of t p c (sym (base-at t n p c (base-below t n p c e)) ∙ e)))
+            (λ c e. let l = base-cell t n p c e in holds-inside p new c l (holds-of t p c (sym (base-at t n p c (l .below)) ∙ e)))
             (λ f f< h real y. yes-of t p (across t f) y)
 
         -- back along the straight walk to p
-        walked : {c d : ℕ} → c < n → Chain t n (λ c k. form t (whole p) (4 * c + k) <ℤ pos 0) c d → inSet s d ≡ true → pos 0 <ℤ cellE t p c → inSet s c ≡ true
+        walked : {c d : ℕ} → IsCell t n c → FacePath t n (λ c k. form t (whole p) (4 * c + k) <ℤ pos 0) c d → inSet s d ≡ true → pos 0 <ℤ cellE t p c → inSet s c ≡ true
         walked l here e h = e
         walked {c} {d} l (step k k< b u< w) e h =
             ap (inSet s) (sym back) ∙
             cavity-closed M R (saysYes sphere t p) (base t n p) (base-long t n p) (mate t f) (mate< M R f f< real)
-            (ap (inSet s) (mated M R f f< real .far-cell) ∙ walked u< w e next) (mate-real M R f f< real)
+            (ap (inSet s) (mated M R f f< real .far-cell) ∙ walked (across-cell M R f f< real) w e next) (mate-real M R f f< real)
             (ap (saysYes sphere t p) back ∙ yes-yes t p c h)
           where
             f : ℕ
             f = 4 * c + k
 
-            f< : f < 4 * n
-            f< = omega arith
+            f< : IsFace t n f
+            f< = face-in c k k< l
 
             real : across t f ≢ none
             real = omega (arith, few M R)
@@ -151,19 +147,19 @@ module _ {X Y Z pc cc np n : ℕ} {t : Tables} (M : IsMesh X Y Z pc cc np n t) w
             next = crossing p f f< real (<→≤ (subst (λ z. z <ℤ pos 0) (form-whole t p f) b)) (subst (λ x. pos 0 <ℤ cellE t p x) (sym (face-cell c k k<)) h)
 
         -- where it ends
-        reached-in : {c : ℕ} (r : Reached t n (whole p) c) → inSet s (r .cell) ≡ true
-        reached-in r = cavity-has t n p (saysYes sphere t p) (base t n p) (base-long t n p) (r .cell) (base-at t n p (r .cell) (r .cell<) ∙ holds-yes t p (r .cell) held)
+        held-in : (c : ℕ) → IsCell t n c → HoldsForm t (whole p) c → inSet s c ≡ true
+        held-in c l h = cavity-has t n p (saysYes sphere t p) (base t n p) (base-long t n p) c (base-at t n p c (l .below) ∙ holds-yes t p c (l .lives) sides)
           where
-            held : Holds t p (r .cell)
-            held = unfold Holds in (λ k i. subst (λ z. pos 0 ≤ℤ z) (form-whole t p (4 * r .cell + k) ∙ side-at t p (r .cell) k i) (r .holds k i))
+            sides : Holds t p c
+            sides = unfold Holds in (λ k i. subst (λ z. pos 0 ≤ℤ z) (form-whole t p (4 * c + k) ∙ side-at t p c k i) (h k i))
 
         pub cavity-some : (c : ℕ) × (inSet s c ≡ true)
-        cavity-some = let r = straight-walk M R (whole p) (whole-in-box box) 0 (omega (arith, M .cells≥)) in (r .cell, reached-in r)
+        cavity-some = let r = held M R (whole p) (whole-in-box box) in (r .0, held-in (r .0) (r .1) (r .2))
 
-        inside-cavity : (c : ℕ) → c < n → pos 0 <ℤ cellE t p c → inSet s c ≡ true
-        inside-cavity c l h = let r = straight-walk M R (whole p) (whole-in-box box) c l in walked l (r .chain) (reached-in r) h
+        inside-cavity : (c : ℕ) → IsCell t n c → pos 0 <ℤ cellE t p c → inSet s c ≡ true
+        inside-cavity c l h = let r = straight-walk M R (whole p) (whole-in-box box) c l in walked l (r .path) (held-in (r .cell) (r .cell<) (r .holds)) h
 
-        pub outside-cavity : (c : ℕ) → c < n → inSet s c ≡ false → cellE t p c ≤ℤ pos 0
+        pub outside-cavity : (c : ℕ) → IsCell t n c → inSet s c ≡ false → cellE t p c ≤ℤ pos 0
         outside-cavity c l e = by (total (cellE t p c) (pos 0))
           where
             by : (cellE t p c ≤ℤ pos 0) ⊎ (pos 0 <ℤ cellE t p c) → cellE t p c ≤ℤ pos 0
@@ -171,20 +167,23 @@ module _ {X Y Z pc cc np n : ℕ} {t : Tables} (M : IsMesh X Y Z pc cc np n t) w
             by (inr h) = clash (inside-cavity c l h) e
 
         -- D4
-        pub cavity-is : (c : ℕ) → c < n → inSet s c ≡ saysYes sphere t p c
+        pub cavity-is : (c : ℕ) → IsCell t n c → inSet s c ≡ saysYes sphere t p c
         cavity-is c l = bool-ext (inSet s c) (saysYes sphere t p c) (λ e. yes-yes t p c (cavity-inside c e)) (λ y. inside-cavity c l (yes-of t p c y))
 
         -- D5: an outer face of it
-        pub cavity-faces : (f : ℕ) → f < 4 * n → outer (across t) (inSet s) f ≡ true → (visible t p s f ≡ true) ⊎ (coplanar t p f ≡ true)
-        cavity-faces f f< o = by (ℕ-discrete (across t f) none)
+        pub cavity-faces : (f : ℕ) → outer (across t) (inSet s) f ≡ true → (visible t p s f ≡ true) ⊎ (coplanar t p f ≡ true)
+        cavity-faces f o = by (ℕ-discrete (across t f) none)
           where
             q : Outer t s f
             q = outer-of t s f o
 
+            f< : IsFace t n f
+            f< = cavity-cell t n p (cellOf f) (q .held)
+
             by : Dec (across t f ≡ none) → (visible t p s f ≡ true) ⊎ (coplanar t p f ≡ true)
             by (no real) =
                 inl (visible-yes t p s f o
-                (crossing-out p f f< real (cavity-inside (cellOf f) (q .held)) (outside-cavity (across t f) (M .across< f f< real) (q .free))))
+                (crossing-out p f f< real (cavity-inside (cellOf f) (q .held)) (outside-cavity (across t f) (across-cell M R f f< real) (q .free))))
             by (yes bare) = at (trichotomy (pos 0) (side t p f))
               where
                 at : (pos 0 <ℤ side t p f) ⊎ ((pos 0 ≡ side t p f) ⊎ (side t p f <ℤ pos 0)) → (visible t p s f ≡ true) ⊎ (coplanar t p f ≡ true)

@@ -11,7 +11,7 @@ use Rattle.geometry.specs.declared.Position.{Position}
 use Rattle.geometry.specs.Volume.{position, squaredDistance}
 use Rattle.geometry.proofs.Algebra.{affine}
 use Rattle.insphere.proofs.Power.{power-round}
-use Rattle.mesh.specs.Tables.{Tables, point, corner, cornerAt}
+use Rattle.mesh.specs.Tables.{Tables, point, corner, cornerAt, IsCell}
 use Rattle.mesh.specs.Mesh.{boxCorner, bit, IsMesh}
 use Rattle.spheres.specs.Exact.{Empty}
 use Rattle.spheres.proofs.Cavity.{sphere-is}
@@ -37,5 +37,5 @@ eight-empty {X} {Y} {Z} {n = n} {t = t} M = record {
     on-sphere : (k : ℕ) → k < 8 → OnBoxSphere X Y Z (point t k)
     on-sphere k h = subst (OnBoxSphere X Y Z) (sym (M .boxCorners k h)) (corner-on-sphere X Y Z k)
 
-    at : (c i : ℕ) → c < n → i < 4 → OnBoxSphere X Y Z (cornerAt t c i)
+    at : (c i : ℕ) → IsCell t n c → i < 4 → OnBoxSphere X Y Z (cornerAt t c i)
     at c i l hi = unfold cornerAt in on-sphere (corner t c i) (M .corner< c i l hi)

@@ -8,19 +8,20 @@ use lib.ListN.{length, length-append}
 use Rattle.geometry.specs.declared.Position.{Position}
 use Rattle.mesh.specs.declared.Mesh.{Mesh}
 use Rattle.mesh.specs.Tables.{Tables, pointCapacity, cellCapacity, cellOf, opposite, mate}
-use Rattle.mesh.specs.Mesh.{IsMesh}
+use Rattle.mesh.specs.Mesh.{ValidMesh}
+use Rattle.mesh.specs.Chain.{chainOf}
 use Rattle.mesh.specs.Check.{isMesh}
 use Rattle.mesh.specs.Start.{startRefusal}
 use Rattle.mesh.proofs.Room.{Room, room-of}
-use Rattle.mesh.proofs.Checked.{check-mesh}
-use Rattle.mesh.proofs.Verdict.{passed}
-use Rattle.mesh.proofs.Faces.{mate-cell<}
-use Rattle.mesh.proofs.FaceNumbers.{opposite<, cell<}
+use Rattle.mesh.proofs.Valid.{valid-of, passed}
+use Rattle.mesh.proofs.Faces.{mate<}
+use Rattle.mesh.proofs.FaceNumbers.{opposite<}
 use Rattle.cavity.specs.Answers.{sphere, handed}
 use Rattle.insertion.specs.declared.Report.{Report}
 use Rattle.insertion.specs.declared.Inserted.the-variants.{Accepted}
 use Rattle.insertion.specs.Insertion.{firstCavity, lastCavity, cellsMade, nodeRefusal, reportOf, insertedMesh, insertedTables, insertCall}
-use Rattle.insertion.proofs.Refusals.{MeshFor, NodeFits, node-fits, node-accepted, call-is-node, accepted-node, accepted-call}
+use Rattle.insertion.proofs.Refusals.{NodeFits, node-fits, node-accepted, call-is-node, accepted-node, accepted-call}
+use Rattle.insertion.proofs.Growing.{fits}
 use Rattle.calls.specs.Calls.{Build, startBuild, Call, by-sphere, by-answers, by-marks, by-list, look, outcome, meshAfter}
 use Rattle.calls.proofs.EachNode.{built, KeptBy, insert-keeps, marked-keeps, list-keeps, look-keeps}
 use Rattle.calls.proofs.Calls.{every-list-of-calls}
@@ -31,7 +32,7 @@ use Rattle.spheres.proofs.Star.{exact-insertion}
 use Rattle.spheres.proofs.Start.{eight-empty}
 
 abbrev Clear : Build → Type 0
-Clear b = Empty (b .mesh .points) (b .mesh .cells) (b .tables)
+Clear b = Empty (b .mesh .points) (b .mesh .used) (b .tables)
 
 -- a call with answers handed in that accepts no node changes nothing
 none-accepted : (b : Build) (w : ℕ) (bytes : List ℕ) (p : Position) → Clear b → outcome b (by-answers w bytes p) .accepted ≡ [] → Clear (outcome b (by-answers w bytes p) .after)
@@ -45,18 +46,18 @@ none-accepted b w bytes p G =
 -- ---- one node that our own test lets in
 
 module _ (m : Mesh) (t : Tables) (w : ℕ) (p : Position) (e : isMesh m t w ≡ true) (r : nodeRefusal m t w p sphere ≡ 0) (G : Clear (built m t)) where
-  M : MeshFor m t w
-  M = check-mesh (m .x) (m .y) (m .z) (pointCapacity t) (cellCapacity t w) (m .points) (m .cells) t e
+  M : ValidMesh m t w
+  M = valid-of m t w e
 
   N : NodeFits m t w p sphere
   N = node-fits m t w p sphere r
 
-  inserted : ExactInsertion (m .points) (m .cells) t p
-  unfolding cellsMade lastCavity
-  inserted = exact-insertion M (room-of t w) G p (N .box) (N .free) (omega (arith, M .points≤, N .next)) (N .cells)
+  inserted : ExactInsertion (chainOf m t) (m .points) (m .used) t p
+  unfolding lastCavity
+  inserted = exact-insertion (M .mesh) (room-of t w) G p (N .box) (N .free) (fits m t w w p sphere M N (omega arith))
 
   node-clear : Clear (built (insertedMesh m t p sphere) (insertedTables m t p sphere))
-  unfolding insertedMesh insertedTables lastCavity
+  unfolding insertedMesh insertedTables cellsMade lastCavity
   node-clear = inserted .empty
 
   pub node-sizes : reportOf m t p sphere .before ≡ reportOf m t p sphere .after
@@ -85,17 +86,17 @@ module _ (X Y Z : ℕ) (t : Tables) (w : ℕ) (started : startRefusal X Y Z t w 
   abbrev b : Build
   b = meshAfter (startBuild X Y Z t w) cs
 
-  -- three entries a cell, whatever the cells
+  -- three entries for each that is in use, whatever is in use
   abbrev room : Build → ℕ
-  room c = 18 + 3 * c .mesh .cells
+  room c = 18 + 3 * c .mesh .used
 
   clear : Clear b
   unfolding meshAfter startBuild
   clear =
       own-calls (startBuild X Y Z t w) cs own
-      (eight-empty (every-list-of-calls X Y Z t w started [] .mesh (room (startBuild X Y Z t w)) (omega arith) (omega arith)))
+      (eight-empty (every-list-of-calls X Y Z t w started [] .mesh (room (startBuild X Y Z t w)) (omega arith) (omega arith) .mesh))
 
-  M′ : IsMesh X Y Z (pointCapacity (b .tables)) (cellCapacity (b .tables) (room b)) (b .mesh .points) (b .mesh .cells) (b .tables)
+  M′ : ValidMesh (b .mesh) (b .tables) (room b)
   M′ = every-list-of-calls X Y Z t w started cs .mesh (room b) (omega arith) (omega arith)
 
   R : Room (pointCapacity (b .tables)) (cellCapacity (b .tables) (room b)) (b .tables)
@@ -104,7 +105,7 @@ module _ (X Y Z : ℕ) (t : Tables) (w : ℕ) (started : startRefusal X Y Z t w 
   spheres-empty : EmptySpheres b
   spheres-empty = record {
     far-corners = λ f l real.
-        corner-out M′ R clear (cellOf (mate (b .tables) f)) (cellOf f) (opposite (mate (b .tables) f)) (mate-cell< M′ R f l real) (cell< f l) (opposite< (mate (b .tables) f));
+        corner-out (M′ .mesh) R clear (cellOf (mate (b .tables) f)) (cellOf f) (opposite (mate (b .tables) f)) (mate< (M′ .mesh) R f l real) l (opposite< (mate (b .tables) f));
     points = clear;
   }
 

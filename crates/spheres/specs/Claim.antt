@@ -1,5 +1,5 @@
 -- 'A mesh grown from a started box by our own test alone': lists of calls, and what holds after them.
-use Prim.Native.Nat.{ℕ, _*_, _<_}
+use Prim.Native.Nat.{ℕ}
 use mathlib.Core.List.{List, [], _∷_}
 use mathlib.Core.Logic.{_≢_}
 use mathlib.Core.Path.{_≡_}
@@ -7,7 +7,7 @@ use lib.IntN.{pos}
 use lib.Signed.{_≤ℤ_}
 use Rattle.geometry.specs.declared.Position.{Position}
 use Rattle.mesh.specs.declared.Mesh.{Mesh}
-use Rattle.mesh.specs.Tables.{none, cellOf, opposite, across, cornerAt, mate}
+use Rattle.mesh.specs.Tables.{none, cellOf, opposite, across, cornerAt, mate, IsFace}
 use Rattle.cavity.specs.Answers.{sphere, cellE}
 use Rattle.insertion.specs.declared.Report.{Report}
 use Rattle.insertion.specs.declared.Inserted.the-variants.{Accepted}
@@ -30,10 +30,10 @@ OwnCalls b (c ∷ cs) = OwnCall b c × OwnCalls (outcome b c .after) cs
 
 pub record EmptySpheres (b : Build) : Type 0 where
   -- 'no neighbour's far corner strictly inside any cell's sphere'
-  pub far-corners : (f : ℕ) → f < 4 * b .mesh .cells → across (b .tables) f ≢ none →
+  pub far-corners : (f : ℕ) → IsFace (b .tables) (b .mesh .used) f → across (b .tables) f ≢ none →
       let g = mate (b .tables) f in cellE (b .tables) (cornerAt (b .tables) (cellOf g) (opposite g)) (cellOf f) ≤ℤ pos 0
   -- 'and after that no point of the mesh at all inside any sphere'
-  pub points : Empty (b .mesh .points) (b .mesh .cells) (b .tables)
+  pub points : Empty (b .mesh .points) (b .mesh .used) (b .tables)
 
 -- whatever node our own test lets in next, the correction removes no cell: the report has one size before and after it
 pub record EqualSizes (b : Build) : Type 0 where

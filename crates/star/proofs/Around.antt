@@ -11,14 +11,14 @@ use lib.Dec.{eqb, ltb}
 use lib.ListN.{length, List·getD-eq-default}
 use Rattle.arith.proofs.Flags.{flag-below, below-four}
 use Rattle.arith.proofs.Tables.{tabulate-length}
-use Rattle.mesh.specs.Tables.{Tables, pointCapacity, cellCapacity, none, cellOf, opposite, corner, across, mate, placeOf}
+use Rattle.mesh.specs.Tables.{Tables, pointCapacity, cellCapacity, none, cellOf, opposite, corner, across, mate, placeOf, IsCell, IsFace}
 use Rattle.mesh.specs.Mesh.{IsMesh}
 use Rattle.mesh.specs.Inner.{HasCell}
 use Rattle.mesh.proofs.Room.{Room, room-of}
 use Rattle.mesh.proofs.Glued.{Glued}
 use Rattle.mesh.proofs.Faces.{glued, mated}
 use Rattle.mesh.proofs.Mates.{mate-by-name}
-use Rattle.mesh.proofs.FaceNumbers.{face-cell, face-opposite, face-eq, opposite<}
+use Rattle.mesh.proofs.FaceNumbers.{face-cell, face-opposite, face-eq, opposite<, face-in}
 use Rattle.cavity.specs.Cavity.{inSet}
 use Rattle.cavity.specs.Inner.{inside, setOf}
 use Rattle.star.specs.Turn.{State, outFace, cross, turn}
@@ -87,10 +87,10 @@ module _ {n : ℕ} {st cs ns : List ℕ} (b : CavityIntact n st cs ns) where
   abbrev R : Room (pointCapacity t) (cellCapacity t (b .mesh .w)) t
   R = standing-room
 
-  pub standing-glued : Glued n (corner (b .was)) (across (b .was)) (mate (b .was))
+  pub standing-glued : Glued n (IsCell (b .was) n) (corner (b .was)) (across (b .was)) (mate (b .was))
   standing-glued = glued (b .mesh .mesh) R
 
-  abbrev G : Glued n (corner t) (across t) (mate t)
+  abbrev G : Glued n (IsCell t n) (corner t) (across t) (mate t)
   G = standing-glued
 
   pub standing-few : n ≤ 4096
@@ -104,14 +104,14 @@ module _ {n : ℕ} {st cs ns : List ℕ} (b : CavityIntact n st cs ns) where
 
   -- at x, with u behind the exit
   module _ (x : State) (w : Valid (inSet (setOf n st)) x) (u : ℕ) (e : u ≡ entryAt ns (x .cell) (x .exit)) where
-    cell< : x .cell < n
-    cell< = set-below n st (x .cell) (w .held)
+    cell< : IsCell t n (x .cell)
+    cell< = b .cells (x .cell) (w .held)
 
     u-is : u ≡ across t (outFace x)
     u-is = e ∙ b .neighbours-same (x .cell) (x .exit) (w .held) (w .exit<)
 
     pub behind< : u ≢ none → u < n
-    behind< d = rw u-is (b .mesh .mesh .across< (outFace x) (omega (arith, cell<, w .exit<)) (λ q. d (u-is ∙ q)))
+    behind< d = rw u-is (b .mesh .mesh .across< (outFace x) (face-in (x .cell) (x .exit) (w .exit<) cell<) (λ q. d (u-is ∙ q)))
 
     pub behind-held : inSet (setOf n st) (across (b .was) (outFace x)) ≡ inside st (u)
     behind-held = ap (inSet s) (sym u-is) ∙ set-across n st standing-few (b .states) u behind<
@@ -144,8 +144,8 @@ module _ {n : ℕ} {st cs ns : List ℕ} (b : CavityIntact n st cs ns) where
           f : ℕ
           f = outFace x
 
-          f< : f < 4 * n
-          f< = omega (arith, cell<, w .exit<)
+          f< : IsFace t n f
+          f< = face-in (x .cell) (x .exit) (w .exit<) cell<
 
           at : cellOf f ≡ x .cell
           at = face-cell (x .cell) (x .exit) (w .exit<)
@@ -159,7 +159,7 @@ module _ {n : ℕ} {st cs ns : List ℕ} (b : CavityIntact n st cs ns) where
               ap opposite (mate-by-name M R f k f< real h (ap (λ y. across t (4 * y + k)) (sym u-is) ∙ (q ∙ sym at)))
 
       pub crossed-valid : Valid (inSet (setOf n st)) (cross (corner (b .was)) (across (b .was)) (mate (b .was)) x)
-      crossed-valid = cross-valid G (set-below n st) x w (behind-held ∙ I)
+      crossed-valid = cross-valid G (b .cells) x w (behind-held ∙ I)
 
       pub turn-on : (left : ℕ) → 0 < left →
           turn (corner (b .was)) (across (b .was)) (mate (b .was)) (inSet (setOf n st)) left x ≡
@@ -167,11 +167,11 @@ module _ {n : ℕ} {st cs ns : List ℕ} (b : CavityIntact n st cs ns) where
       turn-on zero h = absurd (omega arith)
       turn-on (suc k) h =
           let q : k ≡ suc k - 1 = omega arith in
-          turn-step G (set-below n st) k x w (behind-held ∙ I) ∙ ap (λ m. turn (corner t) (across t) (mate t) (inSet s) m (cross (corner t) (across t) (mate t) x)) q
+          turn-step G (b .cells) k x w (behind-held ∙ I) ∙ ap (λ m. turn (corner t) (across t) (mate t) (inSet s) m (cross (corner t) (across t) (mate t) x)) q
 
     pub turn-stays : inside st (u) ≡ false → (left : ℕ) →
         turn (corner (b .was)) (across (b .was)) (mate (b .was)) (inSet (setOf n st)) left x ≡ x
-    turn-stays q left = turn-stop G (set-below n st) left x w (behind-held ∙ q)
+    turn-stays q left = turn-stop G (b .cells) left x w (behind-held ∙ q)
 
 -- no steps left
 pub turn-none : (corner : ℕ → ℕ → ℕ) (across mate : ℕ → ℕ) (S : ℕ → Bool) (left : ℕ) (x : State) → left ≤ 0 → turn corner across mate S left x ≡ x

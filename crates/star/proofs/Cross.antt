@@ -1,8 +1,8 @@
 -- Crossing a face on the way round an edge (T1, T2).
-use Prim.Native.Nat.{ℕ, _*_, _<_}
+use Prim.Native.Nat.{ℕ, _<_}
 use mathlib.Core.Bool.{Bool, true}
 use mathlib.Core.Logic.{_≢_}
-use mathlib.Core.Path.{_≡_, sym, ap, _∙_}
+use mathlib.Core.Path.{_≡_, sym, ap, _∙_, subst}
 use native.Mathlib.Omega.{arith}
 use Rattle.mesh.specs.Tables.{none, cellOf, opposite, placeOf}
 use Rattle.mesh.proofs.FaceNumbers.{face-cell, face-opposite, place-found}
@@ -30,23 +30,23 @@ state-eq p q r = λ i. record { cell = p i; entry = q i; exit = r i }
 pub flip-valid : {S : ℕ → Bool} {s : State} → Valid S s → Valid S (flip s)
 flip-valid w = record { held = w .held; entry< = w .exit<; exit< = w .entry<; apart = λ e. w .apart (sym e) }
 
-module _ {n : ℕ} {corner : ℕ → ℕ → ℕ} {across mate : ℕ → ℕ} (G : Glued n corner across mate) where
-  pub place-is : (c l : ℕ) → c < n → l < 4 → placeOf corner c (corner c l) ≡ l
+module _ {n : ℕ} {cell : ℕ → Type 0} {corner : ℕ → ℕ → ℕ} {across mate : ℕ → ℕ} (G : Glued n cell corner across mate) where
+  pub place-is : (c l : ℕ) → cell c → l < 4 → placeOf corner c (corner c l) ≡ l
   place-is c l h = place-found corner c (λ i j. G .distinct c i j h) l
 
-  module _ {S : ℕ → Bool} (inside : (c : ℕ) → S c ≡ true → c < n) where
+  module _ {S : ℕ → Bool} (inside : (c : ℕ) → S c ≡ true → cell c) where
     held-real : (u : ℕ) → S u ≡ true → u ≢ none
-    held-real u e = omega (arith, inside u e, G .few)
+    held-real u e = omega (arith, G .below u (inside u e), G .few)
 
     module _ (s : State) (w : Valid S s) (I : S (across (outFace s)) ≡ true) where
-      c< : s .cell < n
+      c< : cell (s .cell)
       c< = inside (s .cell) (w .held)
-
-      f< : outFace s < 4 * n
-      f< = omega (arith, c<, w .exit<)
 
       cell-is : cellOf (outFace s) ≡ s .cell
       cell-is = face-cell (s .cell) (s .exit) (w .exit<)
+
+      f< : cell (cellOf (outFace s))
+      f< = subst cell (sym cell-is) c<
 
       side-is : opposite (outFace s) ≡ s .exit
       side-is = face-opposite (s .cell) (s .exit) (w .exit<)

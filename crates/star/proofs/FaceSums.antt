@@ -1,5 +1,5 @@
 -- Sums over the faces of the cells of a set: faces inside it cancel with their mates.
-use Prim.Native.Nat.{ℕ, _*_, _<_}
+use Prim.Native.Nat.{ℕ, _*_}
 use mathlib.Core.Bool.{Bool, true, false, not, _&&_, cond}
 use mathlib.Core.Logic.{_≢_}
 use mathlib.Core.Path.{_≡_, refl, sym, ap, _∙_}
@@ -13,22 +13,26 @@ use Rattle.mesh.proofs.Glued.{Glued}
 
 -- ---- over the faces of the cells of a set
 
-module _ {n : ℕ} {corner : ℕ → ℕ → ℕ} {across mate : ℕ → ℕ} (G : Glued n corner across mate)
-    {S : ℕ → Bool} (inside : (c : ℕ) → S c ≡ true → c < n)
-    (v : ℕ → ℤ) (opposite : (f : ℕ) → f < 4 * n → across f ≢ none → v (mate f) ≡ negℤ (v f)) where
+module _ {n : ℕ} {cell : ℕ → Type 0} {corner : ℕ → ℕ → ℕ} {across mate : ℕ → ℕ} (G : Glued n cell corner across mate)
+    {S : ℕ → Bool} (inside : (c : ℕ) → S c ≡ true → cell c)
+    (v : ℕ → ℤ) (opposite : (f : ℕ) → cell (cellOf f) → across f ≢ none → v (mate f) ≡ negℤ (v f)) where
   abbrev inner : ℕ → Bool
   inner f = S (cellOf f) && S (across f)
 
   inner-real : (f : ℕ) → inner f ≡ true → across f ≢ none
-  inner-real f e = omega (arith, inside (across f) (and-right (S (cellOf f)) (S (across f)) e), G .few)
+  inner-real f e = omega (arith, G .below (across f) (inside (across f) (and-right (S (cellOf f)) (S (across f)) e)), G .few)
+
+  inner-cell : (f : ℕ) → inner f ≡ true → cell (cellOf f)
+  inner-cell f e = inside (cellOf f) (and-left (S (cellOf f)) (S (across f)) e)
 
   faces-paired : Paired (4 * n) mate inner v
   faces-paired = record {
-    mate< = λ f l e. G .mate< f l (inner-real f e);
+    mate< = λ f l e.
+        omega (arith, G .mate-cell f (inner-cell f e) (inner-real f e), G .below (across f) (inside (across f) (and-right (S (cellOf f)) (S (across f)) e)));
     mate-in = λ f l e.
-        rw (G .mate-cell f l (inner-real f e), G .mate-across f l (inner-real f e), and-left (S (cellOf f)) (S (across f)) e, and-right (S (cellOf f)) (S (across f)) e);
-    mate-mate = λ f l e. G .mate-mate f l (inner-real f e);
-    mate-neg = λ f l e. opposite f l (inner-real f e);
+        rw (G .mate-cell f (inner-cell f e) (inner-real f e), G .mate-across f (inner-cell f e) (inner-real f e), and-left (S (cellOf f)) (S (across f)) e, and-right (S (cellOf f)) (S (across f)) e);
+    mate-mate = λ f l e. G .mate-mate f (inner-cell f e) (inner-real f e);
+    mate-neg = λ f l e. opposite f (inner-cell f e) (inner-real f e);
   }
 
   pub sum-inner : sum (4 * n) (λ f. cond (S (cellOf f) && S (across f)) (v f) (pos 0)) ≡ pos 0

@@ -9,7 +9,6 @@ use borrow.Author.Tests.{eq-eqb, eqb-true}
 use lib.Dec.{eqb}
 use lib.ListN.{getD}
 use Rattle.arith.specs.Table.{anyBelow}
-use Rattle.arith.proofs.Counting.{count-le}
 use Rattle.arith.proofs.Flags.{clash, bool-ext, fails, and-left, and-right, and-intro, or-cases, or-left, or-right}
 use Rattle.arith.proofs.Tables.{any-found, any-intro, any-more}
 use Rattle.geometry.specs.declared.Position.{Position}
@@ -17,13 +16,14 @@ use Rattle.mesh.specs.Tables.{Tables, pointCapacity, cellCapacity, cellOf, oppo
 use Rattle.mesh.proofs.Room.{Room, room-of}
 use Rattle.mesh.proofs.FaceNumbers.{face-cell, face-opposite, face-eq, opposite<}
 use Rattle.cavity.specs.Cavity.{inSet, visible}
-use Rattle.cavity.specs.Inner.{inside, setOf}
-use Rattle.cavity.specs.declared.Node.{Node}
+use Rattle.cavity.specs.Inner.{setOf}
 use Rattle.cavity.proofs.Tests.{visible-of}
-use Rattle.star.specs.declared.Replaced.{Replaced}
-use Rattle.star.specs.Inner.{FaceDone, starred, passed-by, Starred, Replacing, StarInProgress}
+use Rattle.cavity.proofs.Gathering.{size≤}
+use Rattle.star.specs.Inner.{FaceDone, starred, passed-by, Starred, Places, Starring, StarInProgress}
+use Rattle.star.specs.Star.{starNumbers}
 use Rattle.star.proofs.Codes.{set-at}
 use Rattle.star.proofs.Around.{set-below}
+use Rattle.star.proofs.Filled.{star-places}
 use Rattle.star.proofs.Done.{star-none, star-more, cavity-corners, cavity-neighbours}
 
 -- face h, when the cells come as listed
@@ -34,59 +34,52 @@ faceAt li h = 4 * getD li (h / 4) 0 + h % 4
 unfoldable pub doneBy : Tables → Position → List Bool → List ℕ → ℕ → ℕ → Bool
 doneBy t p s li i g = visible t p s g && anyBelow i (λ h. eqb (faceAt li h) g)
 
-module _ {t : Tables} {d : Node} {st li fa nu : List ℕ} {counts : Replaced} (B : Replacing t d st li fa nu counts) where
-  abbrev n : ℕ
-  n = d .cells
-
-  abbrev p : Position
-  p = d .position
-
-  abbrev np : ℕ
-  np = d .points
-
-  abbrev size : ℕ
-  size = counts .removed
-
+module _ {t : Tables} {np n : ℕ} {p : Position} {st li : List ℕ} {size : ℕ} {fa nu sl : List ℕ} (B : Starring t np n p st li size fa nu sl) where
   abbrev s : List Bool
   s = setOf n st
 
   abbrev R : Room (pointCapacity t) (cellCapacity t (B .mesh .w)) t
   R = room-of t (B .mesh .w)
 
-  pub listed-few : counts .removed ≤ 4096
-  listed-few = omega (arith, B .listed .counted, count-le n (inside st), B .mesh .mesh .cells≤, R .cells≤)
+  pub places : Places (starNumbers (B .ch) t n p s) t n p s (cellCapacity t (B .mesh .w))
+  places = star-places (B .mesh .mesh) (B .ready .like) record { spare = B .ready .spare; room = R; cells = B .ready .like .cells; next = B .ready .next; used≤ = B .ready .room }
 
-  pub listed-held : (h : ℕ) → h < 4 * counts .removed → inSet (setOf (d .cells) st) (getD li (h / 4) 0) ≡ true
+  pub listed-few : size ≤ 4096
+  listed-few = omega (arith, size≤ (B .listed), B .mesh .mesh .cells≤, R .cells≤)
+
+  pub listed-held : (h : ℕ) → h < 4 * size → inSet (setOf n st) (getD li (h / 4) 0) ≡ true
   listed-held h l =
       set-at n st (getD li (h / 4) 0) (B .listed .below (h / 4) (omega arith)) ∙ B .listed .listed (h / 4) (omega arith)
 
-  pub next-few : d .points < 1024
-  next-few = omega (arith, B .next, R .points≤)
+  pub next-few : np < 1024
+  next-few = omega (arith, B .ready .next, R .points≤)
 
-  pub done-visible : (i g : ℕ) → doneBy t (d .position) (setOf (d .cells) st) li i g ≡ true → visible t (d .position) (setOf (d .cells) st) g ≡ true
+  pub done-visible : (i g : ℕ) → doneBy t p (setOf n st) li i g ≡ true → visible t p (setOf n st) g ≡ true
   unfolding doneBy
   done-visible i g e = and-left (visible t p s g) (anyBelow i (λ h. eqb (faceAt li h) g)) e
 
-  pub done-none : Starred t (d .cells) (d .position) (d .points) (setOf (d .cells) st) (doneBy t (d .position) (setOf (d .cells) st) li 0) (t .corners) (t .neighbours)
+  pub done-none : Starred (starNumbers (B .ch) t n p (setOf n st)) t n p np (setOf n st) (doneBy t p (setOf n st) li 0) (t .corners) (t .neighbours)
   unfolding doneBy anyBelow
-  done-none = subst (λ D. Starred t n p np s D (t .corners) (t .neighbours)) (λ ι g. none-yet g ι) (star-none (B .mesh .mesh) R p np st (B .ready .room))
+  done-none = subst (λ D. Starred (starNumbers (B .ch) t n p s) t n p np s D (t .corners) (t .neighbours)) (λ ι g. none-yet g ι) (star-none (B .mesh .mesh) R p np s places)
     where
       none-yet : (g : ℕ) → false ≡ (visible t p s g && false)
       none-yet g = sym (fails (visible t p s g && false) (λ e. clash (and-right (visible t p s g) false e) refl))
 
-  unfoldable pub building : (i : ℕ) {cs ns : List ℕ} → Starred t (d .cells) (d .position) (d .points) (setOf (d .cells) st) (doneBy t (d .position) (setOf (d .cells) st) li i) cs ns → StarInProgress (d .cells) st fa nu cs ns
+  unfoldable pub building : (i : ℕ) {cs ns : List ℕ} → Starred (starNumbers (B .ch) t n p (setOf n st)) t n p np (setOf n st) (doneBy t p (setOf n st) li i) cs ns → StarInProgress n st fa nu sl cs ns
   building i S = record {
     standing = record {
       was = t;
       np = np;
       mesh = B .mesh;
       states = B .listed .states;
+      cells = B .ready .like .cells;
       corners-long = S .corners-long;
       neighbours-long = S .neighbours-long;
-      corners-same = λ c i h k. cavity-corners (B .mesh .mesh) R p np st (B .ready .room) (doneBy t p s li _) (done-visible _) S c i h k;
-      neighbours-same = λ c i h k. cavity-neighbours (B .mesh .mesh) R p np st (B .ready .room) (doneBy t p s li _) (done-visible _) S c i h k;
+      corners-same = λ c i h k. cavity-corners (B .mesh .mesh) R p np s places (doneBy t p s li _) (done-visible _) S c i h k;
+      neighbours-same = λ c i h k. cavity-neighbours (B .mesh .mesh) R p np s places (doneBy t p s li _) (done-visible _) S c i h k;
     };
     p = p;
+    ch = B .ch;
     ready = B .ready;
   }
 
@@ -120,12 +113,12 @@ module _ {t : Tables} {d : Node} {st li fa nu : List ℕ} {counts : Replaced} (B
       again : (h : ℕ) → h < i → faceAt li h ≡ faceAt li i → ⊥
       again h l e = B .listed .apart (h / 4) (i / 4) (omega arith) (omega arith) (omega arith)
 
-  pub star-next : (i : ℕ) → i < 4 * counts .removed → {cs ns cs′ ns′ : List ℕ} → FaceDone t (d .cells) (d .position) (d .points) (setOf (d .cells) st) (faceAt li i) cs ns cs′ ns′ →
-      Starred t (d .cells) (d .position) (d .points) (setOf (d .cells) st) (doneBy t (d .position) (setOf (d .cells) st) li i) cs ns → Starred t (d .cells) (d .position) (d .points) (setOf (d .cells) st) (doneBy t (d .position) (setOf (d .cells) st) li (i + 1)) cs′ ns′
+  pub star-next : (i : ℕ) → i < 4 * size → {cs ns cs′ ns′ : List ℕ} → FaceDone (starNumbers (B .ch) t n p (setOf n st)) t n p np (setOf n st) (faceAt li i) cs ns cs′ ns′ →
+      Starred (starNumbers (B .ch) t n p (setOf n st)) t n p np (setOf n st) (doneBy t p (setOf n st) li i) cs ns → Starred (starNumbers (B .ch) t n p (setOf n st)) t n p np (setOf n st) (doneBy t p (setOf n st) li (i + 1)) cs′ ns′
   unfolding doneBy
   star-next i i< {cs} {ns} {cs′} {ns′} (starred v F) S =
-      subst (λ D. Starred t n p np s D cs′ ns′) (λ ι g. more g ι)
-      (star-more (B .mesh .mesh) R p np st (B .ready .room) (doneBy t p s li i) (done-visible i) (faceAt li i) v (fresh i i<) S F)
+      subst (λ D. Starred (starNumbers (B .ch) t n p s) t n p np s D cs′ ns′) (λ ι g. more g ι)
+      (star-more (B .mesh .mesh) R p np s places (doneBy t p s li i) (done-visible i) (faceAt li i) v (fresh i i<) S F)
     where
       more : (g : ℕ) → (doneBy t p s li i g || eqb g (faceAt li i)) ≡ doneBy t p s li (i + 1) g
       more g = bool-ext (doneBy t p s li i g || eqb g (faceAt li i)) (doneBy t p s li (i + 1) g) forth back
@@ -146,10 +139,10 @@ module _ {t : Tables} {d : Node} {st li fa nu : List ℕ} {counts : Replaced} (B
               go (inl d) = or-right (doneBy t p s li i g) (eqb g (faceAt li i)) (eq-eqb g (faceAt li i) (sym d))
               go (inr d) = or-left (doneBy t p s li i g) (eqb g (faceAt li i)) d
   star-next i i< {cs} {ns} {cs′} {ns′} (passed-by v e d) S =
-      subst (λ D. Starred t n p np s D cs′ ns′) (λ ι g. same g ι) (lists S)
+      subst (λ D. Starred (starNumbers (B .ch) t n p s) t n p np s D cs′ ns′) (λ ι g. same g ι) (lists S)
     where
-      lists : Starred t n p np s (doneBy t p s li i) cs ns → Starred t n p np s (doneBy t p s li i) cs′ ns′
-      lists S = subst (λ l. Starred t n p np s (doneBy t p s li i) l ns′) (sym e) (subst (λ l. Starred t n p np s (doneBy t p s li i) cs l) (sym d) S)
+      lists : Starred (starNumbers (B .ch) t n p s) t n p np s (doneBy t p s li i) cs ns → Starred (starNumbers (B .ch) t n p s) t n p np s (doneBy t p s li i) cs′ ns′
+      lists S = subst (λ l. Starred (starNumbers (B .ch) t n p s) t n p np s (doneBy t p s li i) l ns′) (sym e) (subst (λ l. Starred (starNumbers (B .ch) t n p s) t n p np s (doneBy t p s li i) cs l) (sym d) S)
 
       same : (g : ℕ) → doneBy t p s li i g ≡ doneBy t p s li (i + 1) g
       same g = bool-ext (doneBy t p s li i g) (doneBy t p s li (i + 1) g) (done-more i g) (λ q. go q (done-cases i g q))
@@ -159,10 +152,10 @@ module _ {t : Tables} {d : Node} {st li fa nu : List ℕ} {counts : Replaced} (B
           go q (inr f) = f
 
   -- every visible face comes once
-  pub star-all : (i : ℕ) → 4 * counts .removed ≤ i → {cs ns : List ℕ} → Starred t (d .cells) (d .position) (d .points) (setOf (d .cells) st) (doneBy t (d .position) (setOf (d .cells) st) li i) cs ns →
-      Starred t (d .cells) (d .position) (d .points) (setOf (d .cells) st) (visible t (d .position) (setOf (d .cells) st)) cs ns
+  pub star-all : (i : ℕ) → 4 * size ≤ i → {cs ns : List ℕ} → Starred (starNumbers (B .ch) t n p (setOf n st)) t n p np (setOf n st) (doneBy t p (setOf n st) li i) cs ns →
+      Starred (starNumbers (B .ch) t n p (setOf n st)) t n p np (setOf n st) (visible t p (setOf n st)) cs ns
   unfolding doneBy
-  star-all i i≥ {cs} {ns} S = subst (λ D. Starred t n p np s D cs ns) (λ ι g. every g ι) S
+  star-all i i≥ {cs} {ns} S = subst (λ D. Starred (starNumbers (B .ch) t n p s) t n p np s D cs ns) (λ ι g. every g ι) S
     where
       every : (g : ℕ) → doneBy t p s li i g ≡ visible t p s g
       every g = bool-ext (doneBy t p s li i g) (visible t p s g) (done-visible i g) (λ e. and-intro e (come e))
@@ -171,7 +164,7 @@ module _ {t : Tables} {d : Node} {st li fa nu : List ℕ} {counts : Replaced} (B
           come e =
               let held = visible-of t p s g e .held in
               let c< = set-below n st (cellOf g) held in
-              let k = B .listed .all (cellOf g) c< (sym (set-at n st (cellOf g) c<) ∙ held) in
+              let k = B .listed .all (cellOf g) (sym (set-at n st (cellOf g) c<) ∙ held) in
               any-intro i (λ h. eqb (faceAt li h) g) (4 * k .0 + opposite g) (omega (arith, k .1))
               (eq-eqb (faceAt li (4 * k .0 + opposite g)) g
               (ap (λ c. 4 * getD li c 0 + opposite (4 * k .0 + opposite g)) (face-cell (k .0) (opposite g) (opposite< g)) ∙

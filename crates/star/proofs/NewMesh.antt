@@ -6,73 +6,94 @@ use mathlib.Core.Path.{_≡_, refl, sym, ap, ap₂, _∙_, subst}
 use mathlib.Core.List.{List}
 use native.Mathlib.Omega.{arith}
 use native.Mathlib.Decide.{ℕ-discrete, decLt}
-use lib.ListN.{getD}
 use lib.IntN.{ℤ, pos, _+ℤ_, +ℤ-idl, +ℤ-idr}
 use lib.Signed.{_<ℤ_}
-use Rattle.arith.specs.Table.{sum, countBelow, selectBelow}
-use Rattle.arith.proofs.Flags.{split, clash}
-use Rattle.arith.proofs.Counting.{Picked, select-picks}
-use Rattle.arith.proofs.Sums.{sum-cong, sum-zero, sum-add, sum-append, sum-cells}
-use Rattle.arith.proofs.Tables.{sum-select}
+use Rattle.arith.specs.Table.{sum}
+use Rattle.arith.proofs.Flags.{split, clash, and-left, and-right, and-intro}
+use Rattle.arith.proofs.Sums.{sum-cong, sum-zero, sum-add, sum-cells}
+use Rattle.arith.proofs.Renumbering.{From, first, second, Together, sum-together}
 use Rattle.geometry.specs.declared.Position.{Position}
 use Rattle.geometry.specs.Volume.{volume, replaced, InBox}
 use Rattle.geometry.proofs.Algebra.{volume-split}
-use Rattle.mesh.specs.Tables.{Tables, none, cellOf, opposite, point, corner, across, cornerAt, cellVolume, side}
+use Rattle.mesh.specs.Tables.{Tables, none, cellOf, opposite, point, corner, across, cornerAt, cellVolume, side, live, IsCell, IsFace}
 use Rattle.mesh.specs.Mesh.{OnWall, Mated, CornerOf, IsMesh}
 use Rattle.mesh.proofs.Room.{Room}
+use Rattle.mesh.proofs.Live.{live-of, freed-volume}
 use Rattle.mesh.proofs.Faces.{glued, mate-opposite}
-use Rattle.mesh.proofs.FaceNumbers.{face-cell, opposite<, cell<, face-eq}
+use Rattle.mesh.proofs.FaceNumbers.{face-cell, face<, opposite<, face-eq}
 use Rattle.mesh.proofs.Held.{side-at}
 use Rattle.cavity.specs.Cavity.{outer, inSet, base, visible, coplanar, correctedCavity}
-use Rattle.star.specs.Star.{kept?, keptCount, madeCount, newCount, keptNumber, madeNumber, star}
+use Rattle.star.specs.Star.{kept?, Numbers}
 use Rattle.cavity.specs.Inner.Star.{Exposed, StarShaped}
 use Rattle.star.proofs.FaceSums.{sum-outer}
 use Rattle.cavity.proofs.Tests.{visible-of, coplanar-of}
 use Rattle.cavity.proofs.Correction.{corrected-star-shaped}
-use Rattle.star.proofs.Star.{Fits, Origin, origin, kept-new<, made<, new≤, new-room, kept-corner, made-apex, made-other, old-point, new-point, from-kept, from-made}
-use Rattle.star.proofs.NewFaces.{Good, inside, kept-volume, made-volume, kept-good, made-good}
+use Rattle.star.proofs.Numbered.{IsStar, Origin, from-kept, from-made, made-apex, made-other}
+use Rattle.star.proofs.NewFaces.{Good, kept-volume, made-volume, kept-good, made-good}
 
 module _ {X Y Z pc cc np n : ℕ} {t : Tables} (M : IsMesh X Y Z pc cc np n t) {p : Position} {s : List Bool}
-    (C : StarShaped t n p s) (F : Fits pc cc np n t p s) where
-  abbrev R : Room pc cc t
-  R = F .room
-
-  abbrev t′ : Tables
-  t′ = star t n p np s
-
-  abbrev n′ : ℕ
-  n′ = newCount t n p s
-
+    (R : Room pc cc t) (C : StarShaped t n p s) {N : Numbers} {t′ : Tables} {n′ : ℕ} (F : IsStar N t n p np s t′ n′) where
   -- ---- N3: the volumes
 
-  kept-sum : sum (keptCount n s) (cellVolume t′) ≡ sum n (λ c. cond (kept? s c) (cellVolume t c) (pos 0))
-  unfolding keptCount keptNumber
-  kept-sum =
-      sum-cong (countBelow n (kept? s)) (cellVolume t′) (λ r. cellVolume t (getD (selectBelow n (kept? s)) r 0))
-      (λ r l. at r (select-picks n (kept? s) r l)) ∙
-      sum-select n (kept? s) (cellVolume t)
-    where
-      at : (r : ℕ) → Picked n (kept? s) r (getD (selectBelow n (kept? s)) r 0) → cellVolume t′ r ≡ cellVolume t (getD (selectBelow n (kept? s)) r 0)
-      at r q = ap (cellVolume t′) (sym (q .counted)) ∙ kept-volume M C F (getD (selectBelow n (kept? s)) r 0) (q .below) (q .passes)
+  visible-face : (f : ℕ) → visible t p s f ≡ true → IsFace t n f
+  visible-face f v = C .cells (cellOf f) (visible-of t p s f v .held)
 
-  made-sum : sum (madeCount t n p s) (λ r. cellVolume t′ (keptCount n s + r)) ≡ sum (4 * n) (λ f. cond (visible t p s f) (side t p f) (pos 0))
-  unfolding madeCount madeNumber
-  made-sum =
-      sum-cong (countBelow (4 * n) (visible t p s)) (λ r. cellVolume t′ (keptCount n s + r)) (λ r. side t p (getD (selectBelow (4 * n) (visible t p s)) r 0))
-      (λ r l. at r (select-picks (4 * n) (visible t p s) r l)) ∙
-      sum-select (4 * n) (visible t p s) (side t p)
+  -- a live cell outside the cavity
+  abbrev entry : ℕ → Bool
+  entry c = live t c && kept? s c
+
+  together : Together n′ n (4 * n) entry (visible t p s) (N .kept) (N .made)
+  together = record {
+    first< = λ c h e. F .kept< c (cell c h e) (keeps c e);
+    second< = λ f h v. F .made< f (visible-face f v) v;
+    first-one = λ c d h k e f. F .kept-one c d (cell c h e) (cell d k f) (keeps c e) (keeps d f);
+    second-one = λ f g h k v w. F .made-one f g (visible-face f v) (visible-face g w) v w;
+    apart = λ c f h k e v. F .apart c f (cell c h e) (visible-face f v) (keeps c e) v;
+  }
     where
-      at : (r : ℕ) → Picked (4 * n) (visible t p s) r (getD (selectBelow (4 * n) (visible t p s)) r 0) →
-          cellVolume t′ (keptCount n s + r) ≡ side t p (getD (selectBelow (4 * n) (visible t p s)) r 0)
-      at r q = ap (λ x. cellVolume t′ (keptCount n s + x)) (sym (q .counted)) ∙ made-volume M C F (getD (selectBelow (4 * n) (visible t p s)) r 0) (q .below) (q .passes)
+      cell : (c : ℕ) → c < n → entry c ≡ true → IsCell t n c
+      cell c h e = record { below = h; lives = and-left (live t c) (kept? s c) e }
+
+      keeps : (c : ℕ) → entry c ≡ true → kept? s c ≡ true
+      keeps c e = and-right (live t c) (kept? s c) e
+
+  -- an entry in use is a kept cell or a new one, or freed, without volume
+  comes-from : (c : ℕ) → c < n′ → From n (4 * n) entry (visible t p s) (N .kept) (N .made) c ⊎ (cellVolume t′ c ≡ pos 0)
+  comes-from c h = go (split (live t′ c))
+    where
+      by : Origin N t n p s c → From n (4 * n) entry (visible t p s) (N .kept) (N .made) c
+      by (from-kept d d< e q) = first d (d< .below) (and-intro (d< .lives) e) q
+      by (from-made f f< v q) = second f (face< f f<) v q
+
+      go : (live t′ c ≡ true) ⊎ (live t′ c ≡ false) → From n (4 * n) entry (visible t p s) (N .kept) (N .made) c ⊎ (cellVolume t′ c ≡ pos 0)
+      go (inl e) = inl (by (F .only c record { below = h; lives = e }))
+      go (inr e) = inr (freed-volume t′ c e)
+
+  kept-sum : sum n (λ c. cond (entry c) (cellVolume t′ (N .kept c)) (pos 0)) ≡ sum n (λ c. cond (kept? s c) (cellVolume t c) (pos 0))
+  kept-sum = sum-cong n (λ c. cond (entry c) (cellVolume t′ (N .kept c)) (pos 0)) (λ c. cond (kept? s c) (cellVolume t c) (pos 0)) (λ c h. go c h (split (live t c)) (split (kept? s c)))
+    where
+      go : (c : ℕ) → c < n → (live t c ≡ true) ⊎ (live t c ≡ false) → (kept? s c ≡ true) ⊎ (kept? s c ≡ false) →
+          cond (entry c) (cellVolume t′ (N .kept c)) (pos 0) ≡ cond (kept? s c) (cellVolume t c) (pos 0)
+      go c h (inl e) (inl k) = rw (e, k) (kept-volume M R C F c record { below = h; lives = e } k)
+      go c h (inl e) (inr k) = rw (e, k)
+      go c h (inr e) (inl k) = rw (e, k) (sym (freed-volume t c e))
+      go c h (inr e) (inr k) = rw (e, k)
+
+  made-sum : sum (4 * n) (λ f. cond (visible t p s f) (cellVolume t′ (N .made f)) (pos 0)) ≡ sum (4 * n) (λ f. cond (visible t p s f) (side t p f) (pos 0))
+  made-sum =
+      sum-cong (4 * n) (λ f. cond (visible t p s f) (cellVolume t′ (N .made f)) (pos 0)) (λ f. cond (visible t p s f) (side t p f) (pos 0)) (λ f h. go f (split (visible t p s f)))
+    where
+      go : (f : ℕ) → (visible t p s f ≡ true) ⊎ (visible t p s f ≡ false) → cond (visible t p s f) (cellVolume t′ (N .made f)) (pos 0) ≡ cond (visible t p s f) (side t p f) (pos 0)
+      go f (inl v) = rw v (made-volume M R C F f (visible-face f v) v)
+      go f (inr v) = rw v
 
   -- coplanar faces give nothing
-  visible-outer : (f : ℕ) → f < 4 * n → cond (visible t p s f) (side t p f) (pos 0) ≡ cond (inSet s (cellOf f) && not (inSet s (across t f))) (side t p f) (pos 0)
+  visible-outer : (f : ℕ) → cond (visible t p s f) (side t p f) (pos 0) ≡ cond (inSet s (cellOf f) && not (inSet s (across t f))) (side t p f) (pos 0)
   unfolding outer
-  visible-outer f f< = go (split (visible t p s f)) (split (outer (across t) (inSet s) f))
+  visible-outer f = go (split (visible t p s f)) (split (outer (across t) (inSet s) f))
     where
       flat : outer (across t) (inSet s) f ≡ true → visible t p s f ≡ false → side t p f ≡ pos 0
-      flat o v = by (C .faces f f< o)
+      flat o v = by (C .faces f o)
         where
           by : (visible t p s f ≡ true) ⊎ (coplanar t p f ≡ true) → side t p f ≡ pos 0
           by (inl h) = clash h v
@@ -99,15 +120,14 @@ module _ {X Y Z pc cc np n : ℕ} {t : Tables} (M : IsMesh X Y Z pc cc np n t) {
 
   star-sum : sum (4 * n) (λ f. cond (visible t p s f) (side t p f) (pos 0)) ≡ sum n (λ c. cond (inSet s c) (cellVolume t c) (pos 0))
   star-sum =
-      sum-cong (4 * n) (λ f. cond (visible t p s f) (side t p f) (pos 0)) (λ f. cond (inSet s (cellOf f) && not (inSet s (across t f))) (side t p f) (pos 0)) visible-outer ∙
-      (sym (sum-outer (glued M R) {S = inSet s} (inside M C F) (side t p) (λ f l r. mate-opposite M R f l r p)) ∙
+      sum-cong (4 * n) (λ f. cond (visible t p s f) (side t p f) (pos 0)) (λ f. cond (inSet s (cellOf f) && not (inSet s (across t f))) (side t p f) (pos 0)) (λ f h. visible-outer f) ∙
+      (sym (sum-outer (glued M R) {S = inSet s} (C .cells) (side t p) (λ f l r. mate-opposite M R f l r p)) ∙
       (sum-cells n (λ f. cond (inSet s (cellOf f)) (side t p f) (pos 0)) ∙
       sum-cong n (λ c. sum 4 (λ i. cond (inSet s (cellOf (4 * c + i))) (side t p (4 * c + i)) (pos 0))) (λ c. cond (inSet s c) (cellVolume t c) (pos 0)) cell-sides))
 
-  pub volumes-kept : sum (newCount t n p s) (cellVolume (star t n p np s)) ≡ sum n (cellVolume t)
-  unfolding newCount
+  pub volumes-kept : sum n′ (cellVolume t′) ≡ sum n (cellVolume t)
   volumes-kept =
-      sum-append (keptCount n s) (madeCount t n p s) (cellVolume t′) ∙
+      sum-together together (cellVolume t′) comes-from ∙
       (ap₂ _+ℤ_ kept-sum (made-sum ∙ star-sum) ∙
       (sym (sum-add n (λ c. cond (kept? s c) (cellVolume t c) (pos 0)) (λ c. cond (inSet s c) (cellVolume t c) (pos 0))) ∙
       sum-cong n (λ c. cond (kept? s c) (cellVolume t c) (pos 0) +ℤ cond (inSet s c) (cellVolume t c) (pos 0)) (cellVolume t) (λ c l. parts (inSet s c) (cellVolume t c))))
@@ -120,24 +140,28 @@ module _ {X Y Z pc cc np n : ℕ} {t : Tables} (M : IsMesh X Y Z pc cc np n t) {
 
   exposed-corner : (v : ℕ) → Exposed t n p s v → CornerOf t′ n′ v
   exposed-corner v q = record {
-    cell = madeNumber t n p s (q .face);
+    cell = N .made (q .face);
     place = q .on .place;
-    cell< = made< t n p s (q .face) (q .face<) (q .face-visible);
+    cell< = F .made< (q .face) (q .face<) (q .face-visible);
     place< = q .on .place<;
     is = made-other F (q .face) (q .face<) (q .face-visible) (q .on .place) (q .on .place<) (q .on .off) ∙ q .on .is;
   }
 
-  old-used : (k : ℕ) → CornerOf t n k → CornerOf t′ n′ k
-  old-used k u = go (split (inSet s (u .cell)))
+  old-used : (k : ℕ) → k < np → CornerOf t n k → CornerOf t′ n′ k
+  old-used k k< u = go (split (inSet s (u .cell)))
     where
+      -- a corner that is a point is none of a freed entry
+      c< : IsCell t n (u .cell)
+      c< = record { below = u .cell<; lives = live-of t (u .cell) (u .place) (u .place<) (omega (arith, u .is, M .points≤, R .points≤)) }
+
       go : (inSet s (u .cell) ≡ true) ⊎ (inSet s (u .cell) ≡ false) → CornerOf t′ n′ k
       go (inl e) = exposed-corner k (subst (Exposed t n p s) (u .is) (C .corners (u .cell) (u .place) e (u .place<)))
       go (inr e) = record {
-        cell = keptNumber s (u .cell);
+        cell = N .kept (u .cell);
         place = u .place;
-        cell< = kept-new< t n p s (u .cell) (u .cell<) (ap not e);
+        cell< = F .kept< (u .cell) c< (ap not e);
         place< = u .place<;
-        is = kept-corner F (u .cell) (u .cell<) (ap not e) (u .place) (u .place<) ∙ u .is;
+        is = F .kept-corner (u .cell) c< (ap not e) (u .place) (u .place<) ∙ u .is;
       }
 
   new-used : CornerOf t′ n′ np
@@ -145,9 +169,9 @@ module _ {X Y Z pc cc np n : ℕ} {t : Tables} (M : IsMesh X Y Z pc cc np n t) {
     where
       tip : {v : ℕ} → Exposed t n p s v → CornerOf t′ n′ np
       tip q = record {
-        cell = madeNumber t n p s (q .face);
+        cell = N .made (q .face);
         place = opposite (q .face);
-        cell< = made< t n p s (q .face) (q .face<) (q .face-visible);
+        cell< = F .made< (q .face) (q .face<) (q .face-visible);
         place< = opposite< (q .face);
         is = made-apex F (q .face) (q .face<) (q .face-visible) (opposite (q .face)) (opposite< (q .face)) refl;
       }
@@ -162,52 +186,50 @@ module _ {X Y Z pc cc np n : ℕ} {t : Tables} (M : IsMesh X Y Z pc cc np n t) {
 
   -- ---- N5 and the rest, cell by cell
 
-  new-corner< : (c i : ℕ) → c < n′ → i < 4 → corner t′ c i < np + 1
-  new-corner< c i h l = go (origin t n p s c h)
+  new-corner< : (c i : ℕ) → IsCell t′ n′ c → i < 4 → corner t′ c i < np + 1
+  new-corner< c i h l = go (F .only c h)
     where
-      go : Origin t n p s c → corner t′ c i < np + 1
-      go (from-kept d d< e q) = rw (q, kept-corner F d d< e i l) (omega (arith, M .corner< d i d< l))
+      go : Origin N t n p s c → corner t′ c i < np + 1
+      go (from-kept d d< e q) = rw (q, F .kept-corner d d< e i l) (omega (arith, M .corner< d i d< l))
       go (from-made f f< v q) = by (ℕ-discrete i (opposite f))
         where
           by : Dec (i ≡ opposite f) → corner t′ c i < np + 1
           by (yes r) = rw (q, made-apex F f f< v i l r) (omega arith)
-          by (no d) = rw (q, made-other F f f< v i l d) (omega (arith, M .corner< (cellOf f) i (cell< f f<) l))
+          by (no d) = rw (q, made-other F f f< v i l d) (omega (arith, M .corner< (cellOf f) i f< l))
 
-  new-positive : (c : ℕ) → c < n′ → pos 0 <ℤ cellVolume t′ c
-  new-positive c h = go (origin t n p s c h)
+  new-positive : (c : ℕ) → IsCell t′ n′ c → pos 0 <ℤ cellVolume t′ c
+  new-positive c h = go (F .only c h)
     where
-      go : Origin t n p s c → pos 0 <ℤ cellVolume t′ c
-      go (from-kept d d< e q) = rw (q, kept-volume M C F d d< e) (M .positive d d<)
-      go (from-made f f< v q) = rw (q, made-volume M C F f f< v) (visible-of t p s f v .above)
+      go : Origin N t n p s c → pos 0 <ℤ cellVolume t′ c
+      go (from-kept d d< e q) = rw (q, kept-volume M R C F d d< e) (M .positive d d<)
+      go (from-made f f< v q) = rw (q, made-volume M R C F f f< v) (visible-of t p s f v .above)
 
-  new-face : (f : ℕ) → f < 4 * n′ → Good X Y Z t′ n′ f
-  new-face f h = subst (Good X Y Z t′ n′) (face-eq f) (go (origin t n p s (cellOf f) (cell< f h)))
+  new-face : (f : ℕ) → IsFace t′ n′ f → Good X Y Z t′ n′ f
+  new-face f h = subst (Good X Y Z t′ n′) (face-eq f) (go (F .only (cellOf f) h))
     where
-      go : Origin t n p s (cellOf f) → Good X Y Z t′ n′ (4 * cellOf f + opposite f)
-      go (from-kept d d< e q) = subst (λ c. Good X Y Z t′ n′ (4 * c + opposite f)) (sym q) (kept-good M C F d d< e (opposite f) (opposite< f))
-      go (from-made g g< v q) = subst (λ c. Good X Y Z t′ n′ (4 * c + opposite f)) (sym q) (made-good M C F g g< v (opposite f) (opposite< f))
-
-  n′≤ : n′ ≤ cc
-  n′≤ = omega (arith, new≤ F, F .cells)
+      go : Origin N t n p s (cellOf f) → Good X Y Z t′ n′ (4 * cellOf f + opposite f)
+      go (from-kept d d< e q) = subst (λ c. Good X Y Z t′ n′ (4 * c + opposite f)) (sym q) (kept-good M R C F d d< e (opposite f) (opposite< f))
+      go (from-made g g< v q) = subst (λ c. Good X Y Z t′ n′ (4 * c + opposite f)) (sym q) (made-good M R C F g g< v (opposite f) (opposite< f))
 
   n′≥ : 1 ≤ n′
   n′≥ = omega (arith, new-used .cell<)
 
-  pub star-mesh : InBox X Y Z p → IsMesh X Y Z pc cc (np + 1) (newCount t n p s) (star t n p np s)
+  -- THE THEOREM, of any tables that are a star of a starlike cavity
+  pub star-mesh : np < pc → n′ ≤ cc → InBox X Y Z p → IsMesh X Y Z pc cc (np + 1) n′ t′
   unfolding Good
-  star-mesh box = record {
+  star-mesh next n′≤ box = record {
     pointCap≥ = M .pointCap≥;
     cellCap≥ = M .cellCap≥;
     sideX = M .sideX;
     sideY = M .sideY;
     sideZ = M .sideZ;
     points≥ = omega (arith, M .points≥);
-    points≤ = omega (arith, F .next);
+    points≤ = omega arith;
     cells≥ = n′≥;
     cells≤ = n′≤;
-    boxCorners = λ k l. old-point F k (omega (arith, M .points≥)) ∙ M .boxCorners k l;
-    inside = each-point (λ k. InBox X Y Z (point t′ k)) (λ k l. subst (InBox X Y Z) (sym (old-point F k l)) (M .inside k l)) (subst (InBox X Y Z) (sym (new-point F)) box);
-    used = each-point (CornerOf t′ n′) (λ k l. old-used k (M .used k l)) new-used;
+    boxCorners = λ k l. F .old-point k (omega (arith, M .points≥)) ∙ M .boxCorners k l;
+    inside = each-point (λ k. InBox X Y Z (point t′ k)) (λ k l. subst (InBox X Y Z) (sym (F .old-point k l)) (M .inside k l)) (subst (InBox X Y Z) (sym (F .new-point)) box);
+    used = each-point (CornerOf t′ n′) (λ k l. old-used k l (M .used k l)) new-used;
     corner< = new-corner<;
     across< = λ f l r. below f r (new-face f l);
     positive = new-positive;
@@ -231,24 +253,19 @@ module _ {X Y Z pc cc np n : ℕ} {t : Tables} (M : IsMesh X Y Z pc cc np n t) {
 -- ---- the theorem
 
 -- what an accepted insertion leaves
-pub record Inserted (X Y Z pc cc np n : ℕ) (t : Tables) (p : Position) (s : List Bool) : Type 0 where
-  pub mesh : IsMesh X Y Z pc cc (np + 1) (newCount t n p s) (star t n p np s)
-  pub room : Room pc cc (star t n p np s)
-  pub old : (k : ℕ) → k < np → point (star t n p np s) k ≡ point t k
-  pub new : point (star t n p np s) np ≡ p
+pub record Inserted (X Y Z pc cc np : ℕ) (t : Tables) (p : Position) (t′ : Tables) (n′ : ℕ) : Type 0 where
+  pub mesh : IsMesh X Y Z pc cc (np + 1) n′ t′
+  pub old : (k : ℕ) → k < np → point t′ k ≡ point t k
+  pub new : point t′ np ≡ p
 
--- THE THEOREM: whatever the answers, the star of the corrected cavity is a mesh
+-- THE THEOREM: whatever the answers and the numbers, a star of the corrected cavity is a mesh
 pub insertion : {X Y Z pc cc np n : ℕ} {t : Tables} → IsMesh X Y Z pc cc np n t → Room pc cc t →
     (p : Position) → InBox X Y Z p → ((k : ℕ) → k < np → p ≢ point t k) →
-    (c : ℕ) → inSet (base t n p) c ≡ true → (yes? : ℕ → Bool) →
-    np < pc → n + madeCount t n p (correctedCavity t n p yes?) ≤ cc →
-    Inserted X Y Z pc cc np n t p (correctedCavity t n p yes?)
-insertion {X} {Y} {Z} {pc} {cc} {np} {n} {t} M R p box free c held yes? next cells = record {
-  mesh = star-mesh M (corrected-star-shaped M R p free yes? c held) fits box;
-  room = new-room fits;
-  old = old-point fits;
-  new = new-point fits;
+    (c : ℕ) → inSet (base t n p) c ≡ true → (yes? : ℕ → Bool) → np < pc →
+    {N : Numbers} {t′ : Tables} {n′ : ℕ} → IsStar N t n p np (correctedCavity t n p yes?) t′ n′ → n′ ≤ cc →
+    Inserted X Y Z pc cc np t p t′ n′
+insertion M R p box free c held yes? next F n′≤ = record {
+  mesh = star-mesh M R (corrected-star-shaped M R p free yes? c held) F next n′≤ box;
+  old = F .old-point;
+  new = F .new-point;
 }
-  where
-    fits : Fits pc cc np n t p (correctedCavity t n p yes?)
-    fits = record { room = R; next = next; cells = cells }

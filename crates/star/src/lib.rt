@@ -7,8 +7,8 @@ pub struct Circulator {
     pub exit: usize,
 }
 
-// How many cells a star removes, and how many it makes.
-pub struct Replaced {
-    pub removed: usize,
-    pub made: usize,
+// What the new cells' numbers leave: the chain's first number, and how many entries are in use.
+pub struct Left {
+    pub chain: u16,
+    pub used: usize,
 }

@@ -1,4 +1,4 @@
-// The new cells of a star, in their slots past the old cells, and named by what lies across.
+// The new cells of a star, at their numbers, and named by what lies across.
 
 ghost use mathlib.Core.Bool.{true};
 ghost use mathlib.Core.Logic.{_≢_};
@@ -7,14 +7,13 @@ ghost use Prim.Native.Nat.{_+_, _*_, _<_};
 ghost use lib.ListN.{getD};
 ghost use Rattle.mesh.specs.Tables.{none, tablesIn, tablesBefore};
 ghost use Rattle.mesh.specs.Inner.{HasCell, withFour};
-ghost use Rattle.cavity.specs.Cavity.{inSet, visible};
+ghost use Rattle.cavity.specs.Cavity.{inSet};
 ghost use Rattle.cavity.specs.Inner.{setOf};
-ghost use Rattle.star.specs.Inner.{StarInProgress, nameBack, FaceDone, Starred, Replacing};
+ghost use Rattle.star.specs.Inner.{StarInProgress, numbersOf, nameBack, FaceDone, Starring, AllStarred};
 use cavity::Node;
 use mesh::Cell;
 use mesh_tables::store;
 use star::Circulator;
-use star::Replaced;
 use star_new::new_cell;
 use star_new::new_number;
 use star_turn::place_of;
@@ -59,14 +58,15 @@ fn star_face(
     n: usize,
     state: &[u8],
     faces: &[u8],
-    numbers: &[u16],
+    ranks: &[u16],
+    slots: &[u16],
     c: usize,
     k: usize,
 )
-    requires { ⌜ StarInProgress n (now state) (now faces) (now numbers) (now corners) (now neighbours)
+    requires { ⌜ StarInProgress n (now state) (now faces) (now ranks) (now slots) (now corners) (now neighbours)
         × (inSet (setOf n (now state)) c ≡ true) × (k < 4) × (np < 1024) ⌝ }
-    ensures { λ _. ⌜ ((b : StarInProgress n (now (state .entry)) (now (faces .entry)) (now (numbers .entry)) (now (corners .entry)) (now (neighbours .entry))) →
-        FaceDone (b .standing .was) n (b .p) np (setOf n (now (state .entry))) (4 * c + k)
+    ensures { λ _. ⌜ ((b : StarInProgress n (now (state .entry)) (now (faces .entry)) (now (ranks .entry)) (now (slots .entry)) (now (corners .entry)) (now (neighbours .entry))) →
+        FaceDone (numbersOf b) (b .standing .was) n (b .p) np (setOf n (now (state .entry))) (4 * c + k)
         (now (corners .entry)) (now (neighbours .entry)) (now (corners .exit)) (now (neighbours .exit))) ⌝ }
 {
     let face = Circulator {
@@ -74,39 +74,52 @@ fn star_face(
         entry: k,
         exit: k,
     };
-    let slot = new_number(faces, numbers, face);
+    let slot = new_number(faces, ranks, slots, face);
     if slot == 65535 {
         return;
     }
-    let cell = new_cell(corners, neighbours, np, n, state, faces, numbers, c, k);
+    let cell = new_cell(corners, neighbours, np, n, state, faces, ranks, slots, c, k);
     put_cell(corners, neighbours, cell, c, k, slot as usize);
 }
 
-// The star of the cavity: new cells past the old ones, named by what lies across.
+// The star of the cavity: a new cell for each visible face, while the cavity still stands.
 pub fn star_faces(
     points: &[u32],
     corners: &mut [u16],
     neighbours: &mut [u16],
     node: Node,
-    counts: Replaced,
     state: &[u8],
     list: &[u16],
+    size: usize,
     faces: &[u8],
-    numbers: &[u16],
+    ranks: &[u16],
+    slots: &[u16],
 )
-    requires { ⌜ Replacing (tablesIn points corners neighbours) node (now state) (now list) (now faces) (now numbers) counts ⌝ }
-    ensures { λ _. ⌜ Starred (tablesBefore points corners neighbours) (node .cells) (node .position) (node .points) (setOf (node .cells) (now (state .entry)))
-        (visible (tablesBefore points corners neighbours) (node .position) (setOf (node .cells) (now (state .entry))))
-        (now (corners .exit)) (now (neighbours .exit)) ⌝ }
+    requires { ⌜ Starring (tablesIn points corners neighbours) (node .points) (node .used) (node .position)
+        (now state) (now list) size (now faces) (now ranks) (now slots) ⌝ }
+    ensures { λ _. ⌜ ((b : Starring (tablesBefore points corners neighbours) (node .points) (node .used) (node .position)
+        (now (state .entry)) (now (list .entry)) size (now (faces .entry)) (now (ranks .entry)) (now (slots .entry))) →
+        AllStarred b (now (corners .exit)) (now (neighbours .exit))) ⌝ }
 {
     let np = node.points;
-    let n = node.cells;
-    let count = 4 * counts.removed;
+    let n = node.used;
+    let count = 4 * size;
     let mut i: usize = 0;
     while i < count {
         let at = i / 4;
         let c = list[at] as usize;
-        star_face(corners, neighbours, np, n, state, faces, numbers, c, i % 4);
+        star_face(
+            corners,
+            neighbours,
+            np,
+            n,
+            state,
+            faces,
+            ranks,
+            slots,
+            c,
+            i % 4,
+        );
         i += 1;
     }
 }

@@ -1,10 +1,11 @@
 // The new cell of a visible face: its number, corners and neighbours.
 
 ghost use mathlib.Core.Path.{_≡_};
-ghost use Prim.Native.Nat.{ℕ, _+_, _*_, _≤_, _<_};
-ghost use lib.ListN.{length, getD};
+ghost use Prim.Native.Nat.{ℕ, _+_, _*_, _<_};
+ghost use lib.ListN.{getD};
 ghost use Rattle.cavity.specs.Inner.{setOf};
-ghost use Rattle.star.specs.Inner.{bitSet, numberAt, slotAcross, StarInProgress, VisibleFace, NewCell};
+ghost use Rattle.star.specs.Star.{madeAcross};
+ghost use Rattle.star.specs.Inner.{bitSet, numberAt, numbersOf, HasNumber, StarInProgress, VisibleFace, NewCell};
 use mesh::Cell;
 use mesh_tables::four_at;
 use star::Circulator;
@@ -20,9 +21,9 @@ fn is_visible(code: u8, k: usize) -> bool
 }
 
 // The number of the new cell of a face, none if the face is coplanar.
-pub fn new_number(faces: &[u8], numbers: &[u16], g: Circulator) -> u16
-    requires { ⌜ (g .cell < length (now faces)) × (g .cell < length (now numbers)) × (g .exit < 4) × (getD (now numbers) (g .cell) 0 ≤ 4096) ⌝ }
-    ensures { λ r. ⌜ r ≡ numberAt (now (faces .entry)) (now (numbers .entry)) (g .cell) (g .exit) ⌝ }
+pub fn new_number(faces: &[u8], ranks: &[u16], slots: &[u16], g: Circulator) -> u16
+    requires { ⌜ HasNumber (now faces) (now ranks) (now slots) (g .cell) (g .exit) ⌝ }
+    ensures { λ r. ⌜ r ≡ numberAt (now (faces .entry)) (now (ranks .entry)) (now (slots .entry)) (g .cell) (g .exit) ⌝ }
 {
     let cell = g.cell;
     let exit = g.exit;
@@ -30,7 +31,8 @@ pub fn new_number(faces: &[u8], numbers: &[u16], g: Circulator) -> u16
     if !is_visible(code, exit) {
         return 65535;
     }
-    numbers[cell] + visible_below(code, exit) as u16
+    let r = ranks[cell] as usize + visible_below(code, exit);
+    slots[r]
 }
 
 // Across face j of the new cell of face k of cell c.
@@ -40,14 +42,15 @@ fn new_neighbour(
     n: usize,
     state: &[u8],
     faces: &[u8],
-    numbers: &[u16],
+    ranks: &[u16],
+    slots: &[u16],
     c: usize,
     k: usize,
     j: usize,
 ) -> u16
-    requires { ⌜ StarInProgress n (now state) (now faces) (now numbers) (now corners) (now neighbours) × VisibleFace n (now state) (now faces) c k × (j < 4) ⌝ }
-    ensures { λ r. ⌜ ((b : StarInProgress n (now (state .entry)) (now (faces .entry)) (now (numbers .entry)) (now (corners .entry)) (now (neighbours .entry))) →
-        r ≡ slotAcross (b .standing .was) n (b .p) (setOf n (now (state .entry))) (4 * c + k) j) ⌝ }
+    requires { ⌜ StarInProgress n (now state) (now faces) (now ranks) (now slots) (now corners) (now neighbours) × VisibleFace n (now state) (now faces) c k × (j < 4) ⌝ }
+    ensures { λ r. ⌜ ((b : StarInProgress n (now (state .entry)) (now (faces .entry)) (now (ranks .entry)) (now (slots .entry)) (now (corners .entry)) (now (neighbours .entry))) →
+        r ≡ madeAcross (numbersOf b) (b .standing .was) n (b .p) (setOf n (now (state .entry))) (4 * c + k) j) ⌝ }
 {
     let from = Circulator {
         cell: c,
@@ -57,7 +60,8 @@ fn new_neighbour(
     if j == k {
         return behind(neighbours, from);
     }
-    new_number(faces, numbers, turn(corners, neighbours, state, n, from))
+    let g = turn(corners, neighbours, state, n, from);
+    new_number(faces, ranks, slots, g)
 }
 
 fn new_neighbours(
@@ -66,19 +70,20 @@ fn new_neighbours(
     n: usize,
     state: &[u8],
     faces: &[u8],
-    numbers: &[u16],
+    ranks: &[u16],
+    slots: &[u16],
     c: usize,
     k: usize,
 ) -> [u16; 4]
-    requires { ⌜ StarInProgress n (now state) (now faces) (now numbers) (now corners) (now neighbours) × VisibleFace n (now state) (now faces) c k ⌝ }
-    ensures { λ r. ⌜ ((b : StarInProgress n (now (state .entry)) (now (faces .entry)) (now (numbers .entry)) (now (corners .entry)) (now (neighbours .entry))) →
-        (j : ℕ) → j < 4 → getD r j 0 ≡ slotAcross (b .standing .was) n (b .p) (setOf n (now (state .entry))) (4 * c + k) j) ⌝ }
+    requires { ⌜ StarInProgress n (now state) (now faces) (now ranks) (now slots) (now corners) (now neighbours) × VisibleFace n (now state) (now faces) c k ⌝ }
+    ensures { λ r. ⌜ ((b : StarInProgress n (now (state .entry)) (now (faces .entry)) (now (ranks .entry)) (now (slots .entry)) (now (corners .entry)) (now (neighbours .entry))) →
+        (j : ℕ) → j < 4 → getD r j 0 ≡ madeAcross (numbersOf b) (b .standing .was) n (b .p) (setOf n (now (state .entry))) (4 * c + k) j) ⌝ }
 {
     [
-        new_neighbour(corners, neighbours, n, state, faces, numbers, c, k, 0),
-        new_neighbour(corners, neighbours, n, state, faces, numbers, c, k, 1),
-        new_neighbour(corners, neighbours, n, state, faces, numbers, c, k, 2),
-        new_neighbour(corners, neighbours, n, state, faces, numbers, c, k, 3),
+        new_neighbour(corners, neighbours, n, state, faces, ranks, slots, c, k, 0),
+        new_neighbour(corners, neighbours, n, state, faces, ranks, slots, c, k, 1),
+        new_neighbour(corners, neighbours, n, state, faces, ranks, slots, c, k, 2),
+        new_neighbour(corners, neighbours, n, state, faces, ranks, slots, c, k, 3),
     ]
 }
 
@@ -90,17 +95,18 @@ pub fn new_cell(
     n: usize,
     state: &[u8],
     faces: &[u8],
-    numbers: &[u16],
+    ranks: &[u16],
+    slots: &[u16],
     c: usize,
     k: usize,
 ) -> Cell
-    requires { ⌜ StarInProgress n (now state) (now faces) (now numbers) (now corners) (now neighbours) × VisibleFace n (now state) (now faces) c k × (np < 1024) ⌝ }
-    ensures { λ r. ⌜ ((b : StarInProgress n (now (state .entry)) (now (faces .entry)) (now (numbers .entry)) (now (corners .entry)) (now (neighbours .entry))) →
-        NewCell (b .standing .was) n (b .p) np (setOf n (now (state .entry))) (4 * c + k) r) ⌝ }
+    requires { ⌜ StarInProgress n (now state) (now faces) (now ranks) (now slots) (now corners) (now neighbours) × VisibleFace n (now state) (now faces) c k × (np < 1024) ⌝ }
+    ensures { λ r. ⌜ ((b : StarInProgress n (now (state .entry)) (now (faces .entry)) (now (ranks .entry)) (now (slots .entry)) (now (corners .entry)) (now (neighbours .entry))) →
+        NewCell (numbersOf b) (b .standing .was) n (b .p) np (setOf n (now (state .entry))) (4 * c + k) r) ⌝ }
 {
     let mut v = four_at(corners, c);
     v[k] = np as u16;
-    let u = new_neighbours(corners, neighbours, n, state, faces, numbers, c, k);
+    let u = new_neighbours(corners, neighbours, n, state, faces, ranks, slots, c, k);
     Cell {
         corners: v,
         neighbours: u,

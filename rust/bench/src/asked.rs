@@ -20,7 +20,7 @@ pub fn asked(set: &Set) -> Asked {
     let mut mesh = tuned::start(set.sides, &mut tables.lend()).mesh;
     let mut asked = Asked::default();
     for &p in &set.nodes {
-        asked.count(&Loaded::load(mesh, &tables.lend()), p);
+        asked.count(&Loaded::load(&RightRules, mesh, &tables.lend()), p);
         mesh = tuned::insert(mesh, &mut tables.lend(), p).mesh;
     }
     asked
@@ -30,13 +30,13 @@ impl Asked {
     /// The grown cavity and its neighbours, each cell once. Base cells too: they are in whatever they answer, but the least T is
     /// over them as well, and the archive takes T from the same test.
     fn count(&mut self, mesh: &Loaded, p: Position) {
-        let mut cavity = Cavity::base(&RightRules, mesh, p);
+        let mut cavity = Cavity::base(mesh, p);
         cavity.grow(Answers::SphereTest);
         let is_asked = |c: usize| {
             let mut across = (0..4).filter_map(|i| mesh.across(c, i));
             cavity.in_cavity[c] || across.any(|u| cavity.in_cavity[u])
         };
-        for c in 0..mesh.cells.len() {
+        for c in mesh.cells() {
             if is_asked(c) {
                 self.cells += 1;
                 let t = float_sum(mesh.positions(c), p);

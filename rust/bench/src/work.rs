@@ -7,7 +7,7 @@ use compare::Builder;
 use plain::loaded::Loaded;
 use plain::nodefile::encode;
 use plain::random::Random;
-use plain::{Answers, Inserted, Mesh, Owned, Position, NODE_LIMIT};
+use plain::{Answers, Inserted, Mesh, Owned, Position, RightRules, NODE_LIMIT};
 
 use crate::nodes::{self, Set};
 
@@ -182,9 +182,13 @@ fn merge(Set { sides, nodes }: Set, files: &Files) -> Work {
     }
 }
 
+fn loaded(work: &mut Work) -> Loaded<'static> {
+    Loaded::load(&RightRules, work.mesh, &work.tables.lend())
+}
+
 fn locate(positions: fn(&Loaded) -> Vec<Position>) -> Work {
     let mut work = call(Kind::Locate(vec![]));
-    let positions = positions(&Loaded::load(work.mesh, &work.tables.lend()));
+    let positions = positions(&loaded(&mut work));
     work.units = positions.len();
     work.kind = Kind::Locate(positions);
     work
@@ -192,9 +196,9 @@ fn locate(positions: fn(&Loaded) -> Vec<Position>) -> Work {
 
 fn look() -> Work {
     let mut work = call(Kind::Check);
-    let nodes = anywhere(&Loaded::load(work.mesh, &work.tables.lend()));
+    let nodes = anywhere(&loaded(&mut work));
     work.units = nodes.len();
-    work.bytes = vec![9; work.mesh.cells as usize];
+    work.bytes = vec![9; work.mesh.used as usize];
     work.kind = Kind::Look(nodes);
     work
 }
@@ -206,7 +210,7 @@ fn insert(with_marks: bool) -> Work {
         return work;
     };
     let mut looked = |p: Position| {
-        let mut marks = vec![0; work.mesh.cells as usize];
+        let mut marks = vec![0; work.mesh.used as usize];
         tuned::look(work.mesh, &mut work.tables.lend(), &mut marks, p);
         marks
     };
@@ -221,16 +225,18 @@ fn anywhere(_mesh: &Loaded) -> Vec<Position> {
     (0..20).map(|_| position()).collect()
 }
 
+/// In the lowest-numbered cell, which is cell 0 in this mesh.
 fn inside_cell_0(mesh: &Loaded) -> Vec<Position> {
-    let corners = mesh.positions(0);
+    let corners = mesh.positions(mesh.cells()[0]);
     let middle = |axis: usize| corners.iter().map(|corner| corner[axis]).sum::<u32>() / 4;
     vec![[0, 1, 2].map(middle)]
 }
 
 fn at_a_point(mesh: &Loaded) -> Vec<Position> {
-    let corners = || mesh.cells.iter().flat_map(|cell| cell.corners);
-    let cells = |point: usize| corners().filter(|&corner| corner as usize == point).count();
-    let most = (0..mesh.points.len()).max_by_key(|&point| cells(point));
+    let cells = mesh.cells();
+    let corners = || cells.iter().flat_map(|&c| mesh.entries[c].corners);
+    let count = |point: usize| corners().filter(|&corner| corner as usize == point).count();
+    let most = (0..mesh.points.len()).max_by_key(|&point| count(point));
     most.map(|point| mesh.points[point]).into_iter().collect()
 }
 

@@ -3,7 +3,7 @@
 //! Up to version 0.4 an insertion went by the sign of the float sum T. Handing in these signs as answers makes the mesh that it
 //! made.
 
-use gantry::{sphere_test, volume6, Mesh, Position, Refusal};
+use gantry::{sphere_test, volume6, Cell, Mesh, Position, Refusal};
 
 const SIDES: Position = [115_000, 95_000, 10_000];
 /// Both pictures are a section here, half way between the two middle columns of nodes.
@@ -29,10 +29,10 @@ pub fn before() -> Result<Mesh, Refusal> {
     let [x, y, z] = SIDES;
     let mut mesh = Mesh::start(x, y, z)?;
     for p in nodes() {
-        let mut answers = vec![];
-        for cell in 0..mesh.cells().len() {
-            let t = sphere_test(corners(&mesh, cell), p)?.t();
-            answers.push(u8::from(t > 0.0));
+        let mut answers = vec![0; mesh.used()];
+        for cell in mesh.cells() {
+            let t = sphere_test(corners(&mesh, &cell), p)?.t();
+            answers[cell.number] = u8::from(t > 0.0);
         }
         mesh.insert_answers(&answers, p)?;
     }
@@ -49,8 +49,8 @@ pub fn after() -> Result<Mesh, Refusal> {
     Ok(mesh)
 }
 
-fn corners(mesh: &Mesh, cell: usize) -> [Position; 4] {
-    mesh.corner_positions(cell).expect("a cell of the mesh")
+fn corners(mesh: &Mesh, cell: &Cell) -> [Position; 4] {
+    cell.corners.map(|point| mesh.points()[point])
 }
 
 /// A cell's least height, which is the one over its largest face, and its longest edge.
@@ -91,8 +91,8 @@ fn shape([a, b, c, d]: [Position; 4]) -> Shape {
 
 /// The shapes of all cells, the thinnest first.
 pub fn shapes(mesh: &Mesh) -> Vec<Shape> {
-    let cells = 0..mesh.cells().len();
-    let mut shapes: Vec<Shape> = cells.map(|cell| shape(corners(mesh, cell))).collect();
+    let cells = mesh.cells();
+    let mut shapes: Vec<Shape> = cells.map(|cell| shape(corners(mesh, &cell))).collect();
     shapes.sort_by(|a, b| a.thinness().total_cmp(&b.thinness()));
     shapes
 }
@@ -152,8 +152,8 @@ fn thinnest(mesh: &Mesh) -> String {
 fn panel(title: &str, mesh: &Mesh, top: f64) -> String {
     let floor = top + 1.5 * LINE + f64::from(SIDES[2]) / SCALE;
     let mut text = words(top + LINE, &format!("{title}: {}", thinnest(mesh)));
-    for cell in 0..mesh.cells().len() {
-        text += &polygon(corners(mesh, cell), floor);
+    for cell in mesh.cells() {
+        text += &polygon(corners(mesh, &cell), floor);
     }
     text
 }

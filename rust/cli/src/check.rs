@@ -19,40 +19,63 @@ pub fn says(condition: &str, outcome: &Outcome) -> String {
 
 /// The mesh check of the archive.
 pub fn is_mesh(grid: &Grid) -> bool {
-    let cells = grid.cells.len();
+    let used = grid.cells.last().map_or(0, |cell| cell.number + 1);
+    let mut entries = Entries::of(grid, used);
     let mut points = grid.points.as_flattened().to_vec();
-    let corner = |point: usize| point as u16;
-    let neighbour = |across: Option<usize>| across.map_or(raw::NO_NEIGHBOUR, |cell| cell as u16);
-    let mut corners: Vec<u16> = grid
-        .cells
-        .iter()
-        .flat_map(|cell| cell.corners.map(corner))
-        .collect();
-    let mut neighbours: Vec<u16> = grid
-        .cells
-        .iter()
-        .flat_map(|cell| cell.neighbours.map(neighbour))
-        .collect();
-    // A mesh has room for six cells at least, whatever it holds.
-    let room = cells.max(6);
-    corners.resize(4 * room, 0);
-    neighbours.resize(4 * room, 0);
-    let mut work = vec![0; 3 * room];
+    let mut work = vec![0; 3 * entries.corners.len()];
     let [x, y, z] = grid.sides;
     let record = Record {
         x,
         y,
         z,
         points: grid.points.len() as u32,
-        cells: cells as u32,
+        cells: grid.cells.len() as u32,
+        chain: entries.chain.into(),
+        used: used as u32,
     };
     let mut tables = Tables {
         points: &mut points,
-        corners: &mut corners,
-        neighbours: &mut neighbours,
+        corners: entries.corners.as_flattened_mut(),
+        neighbours: entries.neighbours.as_flattened_mut(),
         work: &mut work,
     };
     raw::check(record, &mut tables)
+}
+
+/// Cells as the tables have them.
+struct Entries {
+    corners: Vec<[u16; 4]>,
+    neighbours: Vec<[u16; 4]>,
+    chain: u16,
+}
+
+impl Entries {
+    /// A listing leaves the chain out; the check takes the numbers that no cell has in any order on it.
+    fn of(grid: &Grid, used: usize) -> Entries {
+        // A mesh has room for six cells at least, whatever it holds.
+        let room = used.max(6);
+        let mut entries = Entries {
+            corners: vec![raw::FREED; room],
+            neighbours: vec![[raw::NO_NEIGHBOUR; 4]; room],
+            chain: raw::NO_NEIGHBOUR,
+        };
+        for number in 0..used {
+            match grid.cell(number) {
+                Some(cell) => entries.put(cell),
+                None => {
+                    entries.neighbours[number][0] = entries.chain;
+                    entries.chain = number as u16;
+                }
+            }
+        }
+        entries
+    }
+
+    fn put(&mut self, cell: &Cell) {
+        let across = |across: Option<usize>| across.map_or(raw::NO_NEIGHBOUR, |cell| cell as u16);
+        self.corners[cell.number] = cell.corners.map(|point| point as u16);
+        self.neighbours[cell.number] = cell.neighbours.map(across);
+    }
 }
 
 /// What a mesh is, in words, and whether it holds. Numbers in range and points in the box are what makes a `Grid`.
@@ -92,7 +115,8 @@ fn volumes(grid: &Grid) -> impl Iterator<Item = i64> + '_ {
 }
 
 fn every_volume_positive(grid: &Grid) -> Outcome {
-    let least = volumes(grid).enumerate().min_by_key(|&(_, volume)| volume);
+    let numbers = grid.cells.iter().map(|cell| cell.number);
+    let least = numbers.zip(volumes(grid)).min_by_key(|&(_, volume)| volume);
     let greatest = volumes(grid).max();
     match (least, greatest) {
         (Some((_, least)), Some(greatest)) if least > 0 => {
@@ -105,14 +129,14 @@ fn every_volume_positive(grid: &Grid) -> Outcome {
 
 fn every_face_stands(grid: &Grid) -> Outcome {
     let mut walls = 0;
-    for (number, cell) in grid.cells.iter().enumerate() {
+    for cell in &grid.cells {
         for face in 0..4 {
             let fault = match cell.neighbours[face] {
                 None => wall_fault(grid, cell, face),
-                Some(across) => mate_fault(grid, number, face, across),
+                Some(across) => mate_fault(grid, cell, face, across),
             };
             if let Some(fault) = fault {
-                return Err(format!("cell {number} face {face}: {fault}"));
+                return Err(format!("cell {} face {face}: {fault}", cell.number));
             }
             walls += usize::from(cell.neighbours[face].is_none());
         }
@@ -135,13 +159,15 @@ fn wall_fault(grid: &Grid, cell: &Cell, face: usize) -> Option<String> {
     (!is_on_wall).then(|| "no neighbour, and its corners are not on one wall".to_string())
 }
 
-fn mate_fault(grid: &Grid, number: usize, face: usize, across: usize) -> Option<String> {
-    let (cell, other) = (&grid.cells[number], &grid.cells[across]);
+fn mate_fault(grid: &Grid, cell: &Cell, face: usize, across: usize) -> Option<String> {
+    let Some(other) = grid.cell(across) else {
+        return Some(format!("there is no cell {across}"));
+    };
     let points = face_points(cell, face);
     let Some(back) = (0..4).find(|&i| face_points(other, i) == points) else {
         return Some(format!("cell {across} has no face with the same points"));
     };
-    if other.neighbours[back] != Some(number) {
+    if other.neighbours[back] != Some(cell.number) {
         return Some(format!("cell {across} does not name it back"));
     }
     let far = grid.points[other.corners[back]];

@@ -9,6 +9,7 @@ pub struct Grid {
     pub sides: Position,
     /// The box corners, then the nodes.
     pub points: Vec<Position>,
+    /// By rising number; there may be gaps between the numbers.
     pub cells: Vec<Cell>,
 }
 
@@ -33,6 +34,19 @@ pub fn edges(cells: impl IntoIterator<Item = Cell>) -> BTreeSet<[usize; 2]> {
 }
 
 impl Grid {
+    pub fn cell(&self, number: usize) -> Option<&Cell> {
+        let place = self.cells.binary_search_by_key(&number, |cell| cell.number);
+        self.cells.get(place.ok()?)
+    }
+
+    /// Are the cells those of another grid by their corners, whatever their numbers? Where both are meshes, so are their
+    /// neighbours.
+    pub fn has_cells_of(&self, other: &Grid) -> bool {
+        let corners = |cell: &Cell| cell.corners;
+        let [these, those] = [self, other].map(|grid| grid.cells.iter().map(corners));
+        BTreeSet::from_iter(these) == BTreeSet::from_iter(those)
+    }
+
     pub fn corners(&self, cell: &Cell) -> [Position; 4] {
         cell.corners.map(|point| self.points[point])
     }

@@ -1,4 +1,4 @@
-//! Listings: the box with its counts, then a line a cell: number, corners, neighbours, a dash for none.
+//! Listings: the box with its counts, then a line a cell, by rising number: number, corners, neighbours, a dash for none.
 
 use std::fmt::Write;
 
@@ -15,8 +15,8 @@ pub const FILE_LIMIT: usize = 65_536;
 pub fn text(grid: &Grid, stopped: Option<Stopped>) -> String {
     let (points, cells) = (grid.points.len(), grid.cells.len());
     let mut text = format!("box {} points {points} cells {cells}\n", spaced(grid.sides));
-    for (number, cell) in grid.cells.iter().enumerate() {
-        let _ = write!(text, "{number}");
+    for cell in &grid.cells {
+        let _ = write!(text, "{}", cell.number);
         for corner in cell.corners {
             let _ = write!(text, " {corner}");
         }
@@ -60,12 +60,7 @@ pub fn read(listing: &[u8], survey: &Survey) -> Result<Grid, String> {
         let there = lines.len() - 1;
         format!("ends after {there} of {cells} cells")
     })?;
-    let read_row = |(number, row): (usize, &&str)| {
-        let cell = parse_cell(row, number, points, cells);
-        cell.map_err(|fault| format!("line {}: {fault}", number + 2))
-    };
-    let rows: Result<Vec<Cell>, String> = rows.iter().enumerate().map(read_row).collect();
-    let cells_read = rows?;
+    let cells_read = read_cells(rows, points)?;
     let place = read_end(&lines[1 + cells..], survey);
     let listed = place.map_err(|fault| format!("line {}: {fault}", cells + 2))?;
     if points != 8 + listed {
@@ -101,6 +96,22 @@ fn read_head(line: &str, survey: &Survey) -> Result<Head, String> {
     Ok(head)
 }
 
+/// A line each, from line 2 on.
+fn read_cells(rows: &[&str], points: usize) -> Result<Vec<Cell>, String> {
+    let mut cells: Vec<Cell> = Vec::new();
+    for (place, row) in rows.iter().enumerate() {
+        let cell = parse_cell(row, points).and_then(|cell| match cells.last() {
+            Some(last) if last.number >= cell.number => {
+                let (number, last) = (cell.number, last.number);
+                Err(format!("cell {number} after cell {last}: numbers rise"))
+            }
+            _ => Ok(cell),
+        });
+        cells.push(cell.map_err(|fault| format!("line {}: {fault}", place + 2))?);
+    }
+    Ok(cells)
+}
+
 /// The box corners, then the nodes.
 fn points_of(sides: Position, nodes: &[Position]) -> Option<Vec<Position>> {
     let [x, y, z] = sides;
@@ -131,31 +142,28 @@ fn parse_head(line: &str) -> Option<Head> {
 }
 
 /// The number, the corners, the neighbours.
-fn parse_cell(line: &str, number: usize, points: usize, cells: usize) -> Result<Cell, String> {
-    let wrong = || {
-        format!(
-            "{} is not cell {number}, its corners and neighbours",
-            shown(line)
-        )
-    };
+fn parse_cell(line: &str, points: usize) -> Result<Cell, String> {
+    let wrong = || format!("{} is no cell: a number, corners, neighbours", shown(line));
     let words: Vec<&str> = line.split(' ').collect();
-    let [first, ref words @ ..] = words[..] else {
+    let [number, a, b, c, d, e, f, g, h] = words[..] else {
         return Err(wrong());
     };
-    let (&[a, b, c, d, e, f, g, h], true) = (words, first == number.to_string()) else {
-        return Err(wrong());
-    };
-    let below = |word: &str, limit: usize, what: &str| match word.parse() {
+    let below = |word: &str, limit: usize, what: &str| match word.parse::<usize>() {
         Ok(number) if number < limit => Ok(number),
-        Ok(number) => Err(format!("{what} {number}, and the listing has {limit}")),
+        Ok(number) => {
+            let limit = grouped(limit);
+            Err(format!("{what} {number}, and numbers are below {limit}"))
+        }
         Err(_) => Err(wrong()),
     };
     let corner = |word| below(word, points, "point");
+    let cell = |word| below(word, CELL_LIMIT, "cell");
     let neighbour = |word| match word {
         "-" => Ok(None),
-        word => below(word, cells, "cell").map(Some),
+        word => cell(word).map(Some),
     };
     Ok(Cell {
+        number: cell(number)?,
         corners: [corner(a)?, corner(b)?, corner(c)?, corner(d)?],
         neighbours: [neighbour(e)?, neighbour(f)?, neighbour(g)?, neighbour(h)?],
     })

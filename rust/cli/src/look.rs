@@ -11,8 +11,10 @@ use crate::{counted, spaced};
 /// A look at a node, with the cells and edges that it is about.
 pub struct Replacing {
     pub look: Look,
-    /// The cells that would be replaced, with their numbers.
-    pub cells: Vec<(usize, Cell)>,
+    /// How many cells there are.
+    pub now: usize,
+    /// The cells that would be replaced.
+    pub cells: Vec<Cell>,
     /// Their edges.
     pub edges: BTreeSet<[usize; 2]>,
     /// Those among these that no cell would have any more.
@@ -27,13 +29,12 @@ impl Replacing {
         let look = mesh.look(node)?;
         let mut after = mesh.clone();
         after.insert_looked(&look)?;
-        let numbers = look.cells();
-        let cells = numbers.filter_map(|number| Some((number, mesh.cell(number)?)));
-        let cells: Vec<(usize, Cell)> = cells.collect();
-        let edges_of_these = edges(cells.iter().map(|&(_, cell)| cell));
+        let cells: Vec<Cell> = look.cells().filter_map(|cell| mesh.cell(cell)).collect();
+        let edges_of_these = edges(cells.iter().copied());
         let edges_then = edges(after.cells());
-        let then = after.cells().len();
+        let [now, then] = [mesh, &after].map(|mesh| mesh.cells().len());
         Ok(Replacing {
+            now,
             lost: edges_of_these.difference(&edges_then).copied().collect(),
             edges: edges_of_these,
             cells,
@@ -45,15 +46,15 @@ impl Replacing {
     /// Is a point a corner of a cell that would be replaced?
     pub fn has_corner(&self, point: usize) -> bool {
         let mut cells = self.cells.iter();
-        cells.any(|(_, cell)| cell.corners.contains(&point))
+        cells.any(|cell| cell.corners.contains(&point))
     }
 
     /// `node x y z would be point P and replace A of C cells by M`
     pub fn summary(&self) -> String {
         let report = self.look.report();
         let (point, after, made) = (report.point, report.after, report.made);
-        let (node, cells) = (spaced(self.look.position()), self.look.marks().len());
-        format!("node {node} would be point {point} and replace {after} of {cells} cells by {made}")
+        let (node, now) = (spaced(self.look.position()), self.now);
+        format!("node {node} would be point {point} and replace {after} of {now} cells by {made}")
     }
 
     /// The report, and a line for each cell that would be replaced.
@@ -67,9 +68,9 @@ impl Replacing {
             text,
             "  cavity: {before} before correction, {after} after; least T {least:.0}"
         );
-        for (number, cell) in &self.cells {
+        for cell in &self.cells {
             let [a, b, c, d] = cell.corners;
-            let _ = writeln!(text, "  cell {number}: corners {a} {b} {c} {d}");
+            let _ = writeln!(text, "  cell {}: corners {a} {b} {c} {d}", cell.number);
         }
         text
     }

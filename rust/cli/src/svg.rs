@@ -5,7 +5,7 @@ mod replaced;
 
 use std::fmt::Write;
 
-use gantry::Position;
+use gantry::{Cell, Position};
 
 use crate::counted;
 use crate::grid::{edges, Grid};
@@ -305,21 +305,22 @@ impl<'a> Picture<'a> {
     /// All points; where they are too many, with a look, the corners of the cells that would be replaced.
     fn numbered_points(&self) -> Option<Vec<usize>> {
         let points = self.grid.points.len();
-        let numbered = match self.replacing {
+        let numbered: Vec<usize> = match self.replacing {
             Some(r) if points > NUMBERED_POINTS => {
                 (0..points).filter(|&point| r.has_corner(point)).collect()
             }
             _ => (0..points).collect(),
         };
-        at_most(NUMBERED_POINTS, numbered)
+        Some(numbered).filter(|points| points.len() <= NUMBERED_POINTS)
     }
 
     /// All cells, or with a look those that would be replaced.
-    fn numbered_cells(&self) -> Option<Vec<usize>> {
-        match self.replacing {
-            Some(replacing) => at_most(NUMBERED_REPLACED, replacing.look.cells().collect()),
-            None => at_most(NUMBERED_CELLS, (0..self.grid.cells.len()).collect()),
-        }
+    fn numbered_cells(&self) -> Option<&'a [Cell]> {
+        let (cells, limit): (&[Cell], usize) = match self.replacing {
+            Some(replacing) => (&replacing.cells, NUMBERED_REPLACED),
+            None => (&self.grid.cells, NUMBERED_CELLS),
+        };
+        Some(cells).filter(|cells| cells.len() <= limit)
     }
 
     fn draw_labels(&mut self) {
@@ -332,9 +333,9 @@ impl<'a> Picture<'a> {
             let clear = self.radius(point) + 0.7 * FONT;
             self.label(&mut page, &point.to_string(), fill, at, clear);
         }
-        for number in self.numbered_cells().unwrap_or_default() {
-            let anchor = self.view.middle(self.grid.cells[number].corners).at;
-            self.label(&mut page, &number.to_string(), CELL_COLOUR, anchor, 0.0);
+        for cell in self.numbered_cells().unwrap_or_default() {
+            let (words, anchor) = (cell.number.to_string(), self.view.middle(cell.corners).at);
+            self.label(&mut page, &words, CELL_COLOUR, anchor, 0.0);
         }
         // The axes run from point 0 to points 1, 2 and 4.
         for (axis, end) in [("x", 1), ("y", 2), ("z", 4)] {
@@ -392,10 +393,6 @@ fn escaped(words: &str) -> String {
         .replace('&', "&amp;")
         .replace('<', "&lt;")
         .replace('>', "&gt;")
-}
-
-fn at_most(limit: usize, numbers: Vec<usize>) -> Option<Vec<usize>> {
-    (numbers.len() <= limit).then_some(numbers)
 }
 
 impl Grid {

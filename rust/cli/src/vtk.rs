@@ -37,7 +37,8 @@ impl Grid {
             self.cells.iter().map(|_| TETRAHEDRON),
         );
         let _ = writeln!(text, "CELL_DATA {cells}");
-        scalars(&mut text, "cell int", 0..cells);
+        let numbers = self.cells.iter().map(|cell| cell.number);
+        scalars(&mut text, "cell int", numbers.clone());
         // As doubles, which hold six-fold volumes exactly; VTK's long is not the same everywhere.
         let volumes = || self.cells.iter().map(|cell| self.volume6(cell, None));
         scalars(&mut text, "volume6 double", volumes());
@@ -47,7 +48,8 @@ impl Grid {
             volumes().map(|volume| volume as f64 / 6.0),
         );
         if let Some(look) = look {
-            scalars(&mut text, "replaced int", look.marks().iter());
+            let replaced = numbers.map(|number| u8::from(look.replaces(number)));
+            scalars(&mut text, "replaced int", replaced);
         }
         let _ = writeln!(text, "POINT_DATA {points}");
         scalars(&mut text, "point int", 0..points);

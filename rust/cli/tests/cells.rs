@@ -84,25 +84,32 @@ fn wrong_lines_of_a_listing() {
         listing::read(text.as_bytes(), &one).unwrap_err()
     };
     let no_cell =
-        |line: &str| format!("line 4: '{line}' is not cell 2, its corners and neighbours");
+        |line: &str| format!("line 4: '{line}' is no cell: a number, corners, neighbours");
     for wrong in [
-        "3 8 3 2 7 - 1 2 3",
-        "2 8 3 2 7 - 1 2",
-        "2 8 3 2 7 - 1 2 3 4",
-        "2 8 3 2 - - 1 2 3",
-        "2 8 3 2 7 - 1 2 x",
+        "x 8 3 2 7 - 1 2 3",
+        "8 8 3 2 7 - 1 2",
+        "8 8 3 2 7 - 1 2 3 4",
+        "8 8 3 2 - - 1 2 3",
+        "8 8 3 2 7 - 1 2 x",
         "",
     ] {
         assert_eq!(line(wrong), no_cell(wrong));
     }
     assert_eq!(
-        line("2 8 3 9 7 - 1 2 3"),
-        "line 4: point 9, and the listing has 9"
+        line("8 8 3 9 7 - 1 2 3"),
+        "line 4: point 9, and numbers are below 9"
     );
-    assert_eq!(
-        line("2 8 3 2 7 - 1 12 3"),
-        "line 4: cell 12, and the listing has 12"
-    );
+    for wrong in ["4096 8 3 2 7 - 1 2 3", "8 8 3 2 7 - 1 4096 3"] {
+        let fault = "line 4: cell 4096, and numbers are below 4,096";
+        assert_eq!(line(wrong), fault);
+    }
+    // The lines above and below are those of cells 7 and 9.
+    for number in [6, 7] {
+        let fault = format!("line 4: cell {number} after cell 7: numbers rise");
+        assert_eq!(line(&format!("{number} 8 3 2 7 - 1 2 3")), fault);
+    }
+    let fault = "line 5: cell 9 after cell 9: numbers rise";
+    assert_eq!(line("9 8 3 2 7 - 1 2 3"), fault);
     let end = |end: &str| listing::read(format!("{text}{end}\n").as_bytes(), &one).unwrap_err();
     for wrong in ["more", "stopped 0", "stopped 0 x"] {
         assert_eq!(
@@ -140,7 +147,7 @@ fn each_condition_is_told() {
     assert!(failing(&grid).is_empty() && is_mesh(&grid));
     grid.cells[0].corners.swap(0, 1);
     grid.cells[0].neighbours.swap(0, 1);
-    assert_eq!(failing(&grid)[0], "cell 0 has the six-fold volume -48");
+    assert_eq!(failing(&grid)[0], "cell 6 has the six-fold volume -48");
     assert!(!is_mesh(&grid));
 
     let mut grid = started(&[]);
@@ -155,6 +162,8 @@ fn each_condition_is_told() {
     grid.cells[2].neighbours[1] = Some(0);
     let other = "cell 2 face 1: cell 0 has no face with the same points";
     assert_eq!(failing(&grid), [other]);
+    grid.cells[2].neighbours[1] = Some(6);
+    assert_eq!(failing(&grid), ["cell 2 face 1: there is no cell 6"]);
     grid.cells[2].neighbours = [None, Some(3), Some(0), None];
     let back = "cell 1 face 1: cell 2 does not name it back";
     assert_eq!(failing(&grid), [back]);
@@ -168,14 +177,41 @@ fn each_condition_is_told() {
     assert_eq!(failing(&grid).last().map(String::as_str), Some(sum));
 }
 
+/// Other numbers for the cells, in the same order.
+fn renumber(grid: &mut Grid, number: impl Fn(usize) -> usize) {
+    for cell in &mut grid.cells {
+        cell.number = number(cell.number);
+        cell.neighbours = cell.neighbours.map(|across| across.map(&number));
+    }
+}
+
+/// Numbers that no cell has make no difference, wherever they are.
+#[test]
+fn gaps_between_the_numbers() {
+    let built = started(&[[1, 2, 3], [2, 2, 0]]);
+    let numbers: Vec<usize> = built.cells.iter().map(|cell| cell.number).collect();
+    assert_ne!(numbers, Vec::from_iter(0..16));
+    let place = |number: usize| numbers.binary_search(&number).unwrap();
+    for shift in [0, 1, 200] {
+        let mut grid = started(&[[1, 2, 3], [2, 2, 0]]);
+        renumber(&mut grid, |number| shift * place(number) + number);
+        assert!(is_mesh(&grid) && failing(&grid).is_empty());
+        assert!(grid.has_cells_of(&built));
+        assert_eq!(grid == built, shift == 0);
+    }
+    assert!(!started(&[[1, 2, 3]]).has_cells_of(&built));
+}
+
 /// One entry wrong, or two swapped.
 fn damage(grid: &mut Grid, random: &mut Random) {
     let (points, cells) = (grid.points.len(), grid.cells.len());
+    let used = grid.cells[cells - 1].number + 1;
     let cell: &mut Cell = &mut grid.cells[random.index(cells)];
     let (i, j) = (random.index(4), random.index(4));
     match random.below(5) {
         0 => cell.corners[i] = random.index(points),
-        1 => cell.neighbours[i] = Some(random.index(cells)),
+        // A cell, a number that is free, or one past the last.
+        1 => cell.neighbours[i] = Some(random.index(used + 1)),
         2 => cell.neighbours[i] = None,
         3 => cell.corners.swap(i, j),
         _ => cell.neighbours.swap(i, j),

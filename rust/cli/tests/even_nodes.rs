@@ -42,8 +42,8 @@ fn readme_has_its_figures() {
 }
 
 fn has_empty_spheres(mesh: &Mesh) -> bool {
-    (0..mesh.cells().len()).all(|cell| {
-        let corners = mesh.corner_positions(cell).unwrap();
+    mesh.cells().all(|cell| {
+        let corners = mesh.corner_positions(cell.number).unwrap();
         let is_inside = |&p| matches!(sphere_test(corners, p), Ok(SphereAnswer::Inside(_)));
         !mesh.points().iter().any(is_inside)
     })

@@ -5,7 +5,7 @@ mod common;
 use std::collections::BTreeSet;
 
 use common::Place;
-use gantry::{Mesh, Position};
+use gantry::{Cell, Mesh, Position};
 use gantry_cli::look::Replacing;
 use plain::nodefile::encode;
 use plain::random::Random;
@@ -16,13 +16,13 @@ fn the_report_and_the_cells() {
     place.put("a", "4 4 4\n1 2 3\n2 2 0\n");
     let one = "node 0 2 2 would be point 10 and replace 3 of 16 cells by 6: 19 cells then
   cavity: 3 cells before correction, 3 after; least T 96
-  cell 2: corners 0 2 6 8
-  cell 4: corners 0 6 4 8
-  cell 12: corners 0 9 2 8
+  cell 1: corners 0 9 2 8
+  cell 11: corners 0 2 6 8
+  cell 13: corners 0 6 4 8
 ";
     assert_eq!(place.run("look a 0 2 2", b"").done(), one);
     let list = place.run("list a", b"").done();
-    for line in ["2 0 2 6 8 ", "4 0 6 4 8 ", "12 0 9 2 8 "] {
+    for line in ["1 0 9 2 8 ", "11 0 2 6 8 ", "13 0 6 4 8 "] {
         assert!(list.contains(&format!("\n{line}")));
     }
     // Each is looked at by itself; what is refused is told, and the others are shown.
@@ -181,7 +181,7 @@ fn wrong_words() {
 }
 
 fn sorted_corners(mesh: &Mesh) -> Vec<[usize; 4]> {
-    let sorted = |cell: gantry::Cell| {
+    let sorted = |cell: Cell| {
         let mut corners = cell.corners;
         corners.sort_unstable();
         corners
@@ -208,15 +208,15 @@ fn a_look_is_about_its_insertion() {
                 continue;
             };
             assert_eq!(inserted, Ok(replacing.look.report()));
-            assert_eq!(replacing.then, mesh.cells().len());
+            let counts = [&before, &mesh].map(|mesh| mesh.cells().len());
+            assert_eq!([replacing.now, replacing.then], counts);
             let [old, new] = [&before, &mesh].map(sorted_corners);
-            let gone = (0..old.len()).filter(|&cell| !new.contains(&old[cell]));
-            let numbers: Vec<usize> = replacing.cells.iter().map(|&(number, _)| number).collect();
-            assert_eq!(numbers, Vec::from_iter(gone));
-            assert!(replacing
-                .cells
-                .iter()
-                .all(|&(n, cell)| before.cell(n) == Some(cell)));
+            let gone = before
+                .cells()
+                .zip(&old)
+                .filter(|(_, corners)| !new.contains(corners));
+            let gone: Vec<Cell> = gone.map(|(cell, _)| cell).collect();
+            assert_eq!(replacing.cells, gone);
             let pairs = [[0, 1], [0, 2], [0, 3], [1, 2], [1, 3], [2, 3]];
             let edges = |cells: Vec<[usize; 4]>| -> BTreeSet<[usize; 2]> {
                 cells

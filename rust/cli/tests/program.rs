@@ -278,7 +278,7 @@ fn a_listing_beside_its_nodes() {
     assert!(check.starts_with("a.list: box 4 4 4, 10 points, 18 cells\n"));
     assert!(check.contains(&format!("\n{same}: yes, of a.nodes\n")));
     let list = String::from_utf8(place.bytes("a.list")).expect("text");
-    // Two corners of cell 0 swapped with their neighbours.
+    // Two corners of the first cell swapped with their neighbours.
     let line = list.lines().nth(1).unwrap();
     let words: Vec<&str> = line.split(' ').collect();
     let [n, a, b, c, d, e, f, g, h] = words[..] else {
@@ -294,14 +294,13 @@ fn a_listing_beside_its_nodes() {
         (Some(1), "gantry: b.list: its cells fail the mesh check\ngantry: b.list: line 2 differs from the builder's listing\n")
     );
     let said = String::from_utf8(wrong.output).expect("text");
-    assert!(
-        said.contains("\nevery cell has a positive volume: no, cell 0 has the six-fold volume -")
-    );
+    let fault = format!("every cell has a positive volume: no, cell {n} has the six-fold volume -");
+    assert!(said.contains(&format!("\n{fault}")));
     assert!(said.contains(&format!("\n{same}: no, line 2 differs\n")));
     assert!(said.ends_with("\nmesh check: no\n"));
-    // A mesh, but with two cells in each other's places.
-    place.put("c.list", SWAPPED);
-    place.put("c.nodes", encode([4; 3], &[]));
+    // The same cells, but with other numbers.
+    place.put("c.list", OF_0_6);
+    place.put("c.nodes", encode([4; 3], &[[1, 2, 3]]));
     let other = place.run("check --listing c.list c.nodes", b"");
     assert_eq!(
         (other.status, &other.said[..]),
@@ -310,23 +309,30 @@ fn a_listing_beside_its_nodes() {
             "gantry: c.list: line 2 differs from the builder's listing\n"
         )
     );
-    assert!(String::from_utf8(other.output)
-        .expect("text")
-        .ends_with("\nmesh check: yes\n"));
+    let said = String::from_utf8(other.output).expect("text");
+    let difference = "line 2 differs; the cells are the same, with other numbers";
+    assert!(said.contains(&format!("\n{same}: no, {difference}\n")));
+    assert!(said.ends_with("\nmesh check: yes\n"));
     let said = "gantry: a.nodes: not a listing\n";
     place
         .run("check --listing a.nodes a.nodes", b"")
         .refused(1, said);
 }
 
-/// The started box with its first cell last.
-const SWAPPED: &str = "box 4 4 4 points 8 cells 6
-0 0 3 2 7 - 1 5 -
-1 0 2 6 7 - 2 0 -
-2 0 6 4 7 - 3 1 -
-3 0 4 5 7 - 4 2 -
-4 0 5 1 7 - 5 3 -
-5 0 1 3 7 - 0 4 -
+/// Of one node, with the numbers that cells had up to 0.6.
+const OF_0_6: &str = "box 4 4 4 points 9 cells 12
+0 8 1 3 7 - 2 10 1
+1 0 1 3 8 0 3 11 -
+2 8 3 2 7 - 4 0 3
+3 0 3 2 8 2 5 1 -
+4 8 2 6 7 - 6 2 5
+5 0 2 6 8 4 7 3 -
+6 8 6 4 7 - 8 4 7
+7 0 6 4 8 6 9 5 -
+8 8 4 5 7 - 10 6 9
+9 0 4 5 8 8 11 7 -
+10 8 5 1 7 - 0 8 11
+11 0 5 1 8 10 1 9 -
 ";
 
 /// The first of the cells that the command names is the one that the archive answers.
@@ -360,13 +366,13 @@ fn positions_volumes_spheres() {
     let located = place.run("locate a 1 2 3 2 2 1", b"").done();
     assert_eq!(
         located,
-        "position 1 2 3: cell 1, six-fold volume 48
-  held by 12 cells, in the order of their corners: 1 (0 1 3 8), 11 (0 1 5 8), 3 (0 2 3 8), 5 (0 2 6 8), 9 (0 4 5 8), 7 (0 4 6 8) and 6 more
+        "position 1 2 3: cell 7, six-fold volume 48
+  held by 12 cells, in the order of their corners: 7 (0 1 3 8), 17 (0 1 5 8), 9 (0 2 3 8), 11 (0 2 6 8), 15 (0 4 5 8), 13 (0 4 6 8) and 6 more
   corner 0: point 0 at 0 0 0, volume 0, share 0.0000
   corner 1: point 1 at 4 0 0, volume 0, share 0.0000
   corner 2: point 3 at 4 4 0, volume 0, share 0.0000
   corner 3: point 8 at 1 2 3, volume 48, share 1.0000
-position 2 2 1: cell 1, six-fold volume 48
+position 2 2 1: cell 7, six-fold volume 48
   corner 0: point 0 at 0 0 0, volume 12, share 0.2500
   corner 1: point 1 at 4 0 0, volume 4, share 0.0833
   corner 2: point 3 at 4 4 0, volume 16, share 0.3333
@@ -383,7 +389,7 @@ gantry: position 0 -1 0: refused 4 (outside): the box is 4 4 4
 "
         )
     );
-    assert!(outside.output.starts_with(b"position 1 2 3: cell 1"));
+    assert!(outside.output.starts_with(b"position 1 2 3: cell 7,"));
     let four = "0 0 0 4 0 0 4 4 0 4 4 4";
     assert_eq!(place.run(&format!("volume {four}"), b"").done(), "64\n");
     let far = place.run("volume 0 0 0 4 0 0 4 4 0 4 4 131073", b"");

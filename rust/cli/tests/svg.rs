@@ -49,6 +49,44 @@ fn many_cells_have_no_numbers() {
     assert_eq!(counts(&picture([60, 4, 4], &nodes))[1..], [67, WORDS]);
 }
 
+/// The labels in the colour of cells.
+fn cell_numbers(text: &str) -> BTreeSet<usize> {
+    let lines = text
+        .lines()
+        .filter(|line| line.contains("fill=\"#1e6e46\" stroke=\"#ffffff\""));
+    let words = lines.map(|line| line.split_once('>').expect("a label").1.split_once('<'));
+    words
+        .map(|words| words.expect("a label").0.parse().expect("a number"))
+        .collect()
+}
+
+#[test]
+fn cells_have_their_own_numbers() {
+    let mut mesh = built([4; 3], &[[1, 2, 3], [2, 2, 0]]);
+    assert!(mesh.used() > mesh.cells().len());
+    let text = Grid::from(&mesh).to_svg(&[], None);
+    assert_eq!(
+        cell_numbers(&text),
+        mesh.cells().map(|cell| cell.number).collect()
+    );
+    let (text, replacing) = picture_of_look(&mut mesh, [0, 2, 2]);
+    assert_eq!(cell_numbers(&text), replacing.look.cells().collect());
+}
+
+/// A picture without numbers of cells does not depend on them.
+#[test]
+fn gaps_between_the_numbers_are_not_seen() {
+    let nodes = [[1, 1, 1], [3, 1, 2], [2, 3, 1], [1, 3, 3]];
+    let mesh = built([4; 3], &nodes);
+    assert!(mesh.used() > mesh.cells().len() && mesh.cells().len() > 24);
+    let mut grid = Grid::from(&mesh);
+    let picture = grid.to_svg(&[], None);
+    for (place, cell) in grid.cells.iter_mut().enumerate() {
+        cell.number = place;
+    }
+    assert!(grid.to_svg(&[], None) == picture);
+}
+
 #[test]
 fn the_picture_has_its_place_on_the_page() {
     let text = picture([131_072, 1, 500], &[]);
@@ -163,7 +201,7 @@ fn is_orange(stroke: &&str) -> bool {
 
 /// How many points are corners of cells that would be replaced.
 fn corners(replacing: &Replacing) -> usize {
-    let corners = replacing.cells.iter().flat_map(|(_, cell)| cell.corners);
+    let corners = replacing.cells.iter().flat_map(|cell| cell.corners);
     corners.collect::<BTreeSet<_>>().len()
 }
 

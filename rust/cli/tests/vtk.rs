@@ -86,16 +86,21 @@ fn a_look_is_a_scalar_of_the_cells() {
     mesh.insert_list(&[[1, 2, 3], [2, 2, 0]]).unwrap();
     let look = mesh.look([0, 2, 2]).unwrap();
     let grid = Grid::from(&mesh);
-    let marks = (0..16).map(|cell| {
-        if [2, 4, 12].contains(&cell) {
+    // A line for each cell, and none for a freed number.
+    assert!(mesh.used() > grid.cells.len());
+    let numbers = grid.cells.iter().map(|cell| format!("{}\n", cell.number));
+    let without = grid.to_vtk("a title", None);
+    let table =
+        |name: &str, lines: String| format!("SCALARS {name} int 1\nLOOKUP_TABLE default\n{lines}");
+    assert!(without.contains(&table("cell", numbers.collect())));
+    let marks = grid.cells.iter().map(|cell| {
+        if [1, 11, 13].contains(&cell.number) {
             "1\n"
         } else {
             "0\n"
         }
     });
-    let marks: String = marks.collect();
-    let scalars = format!("SCALARS replaced int 1\nLOOKUP_TABLE default\n{marks}");
-    let without = grid.to_vtk("a title", None);
+    let scalars = table("replaced", marks.collect());
     let expected = without.replace("POINT_DATA", &format!("{scalars}POINT_DATA"));
     assert_eq!(grid.to_vtk("a title", Some(&look)), expected);
 }

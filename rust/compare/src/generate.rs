@@ -4,6 +4,7 @@ use plain::random::Random;
 use plain::{Mesh, Owned, Position, CELL_LIMIT, NONE, POINT_LIMIT, SIDE_LIMIT};
 
 use crate::call::{Call, Left};
+use crate::entries::{self, rearrange, Entries};
 use crate::marks;
 use crate::merges;
 use crate::nodes::{self, Spread};
@@ -66,7 +67,7 @@ impl History {
         self.calls_left = self.calls_left.saturating_sub(1);
         let has_mesh = self.mesh.cells != 0;
         if has_mesh && random.one_in(12) {
-            rearrange(random, self.mesh, &mut self.tables);
+            rearrange(random, &mut self.mesh, &mut self.tables);
         }
         let call = match self.is_begun {
             true => self.call(random),
@@ -138,7 +139,7 @@ impl History {
             20..28 => Call::Insert(p),
             28..33 => marks::look(random, self.mesh, p),
             33..40 => self.insert_marked(random, p),
-            _ => Call::InsertAnswers(nodes::answers(random, self.mesh.cells as usize), p),
+            _ => Call::InsertAnswers(nodes::answers(random, self.mesh), p),
         }
     }
 
@@ -174,10 +175,10 @@ impl History {
     /// Where the corners of some cell are, if there is one.
     fn cell(&self, random: &mut Random) -> Option<[Position; 4]> {
         let (points, _) = self.tables.points.as_chunks();
-        let (cells, _) = self.tables.corners.as_chunks::<4>();
-        let count = self.mesh.cells as usize;
-        let cell = cells[..count].get(random.index(count))?;
-        Some(cell.map(|point| points[point as usize]))
+        let (corners, _) = self.tables.corners.as_chunks::<4>();
+        let cells = Entries::of(self.mesh, &self.tables).cells;
+        let &c = cells.get(random.index(cells.len()))?;
+        Some(corners[c].map(|point| points[point as usize]))
     }
 
     /// With the marks of the last look, which may be out of date, or with others.
@@ -272,7 +273,7 @@ fn fill_work(random: &mut Random, work: &mut Vec<u16>) {
 }
 
 /// A number that a table or record might wrongly hold instead of `number`.
-fn wrong(random: &mut Random, number: u32, limit: u32) -> u32 {
+pub fn wrong(random: &mut Random, number: u32, limit: u32) -> u32 {
     let any = random.bits() as u32;
     let near = random.below(limit as u64 + 1) as u32;
     let (up, down) = (number.wrapping_add(1), number.wrapping_sub(1));
@@ -280,22 +281,25 @@ fn wrong(random: &mut Random, number: u32, limit: u32) -> u32 {
 }
 
 fn damage(random: &mut Random, step: &mut Step) {
-    match random.below(8) {
-        0 => damage_record(random, &mut step.mesh),
-        1 => cut(random, &mut step.tables),
-        2 => fold(&mut step.mesh, &mut step.tables),
+    match random.below(13) {
+        0..2 => damage_record(random, &mut step.mesh),
+        2 => cut(random, &mut step.tables),
+        3 => fold(&mut step.mesh, &mut step.tables),
+        4..8 => entries::damage(random, &mut step.mesh, &mut step.tables),
         _ => damage_tables(random, step.mesh, &mut step.tables),
     }
 }
 
 fn damage_record(random: &mut Random, mesh: &mut Mesh) {
     let limit = random.pick(&[10, 1_025, 4_097, 131_073]);
-    let field = match random.below(5) {
+    let field = match random.below(7) {
         0 => &mut mesh.x,
         1 => &mut mesh.y,
         2 => &mut mesh.z,
         3 => &mut mesh.points,
-        _ => &mut mesh.cells,
+        4 => &mut mesh.cells,
+        5 => &mut mesh.chain,
+        _ => &mut mesh.used,
     };
     *field = wrong(random, *field, limit);
 }
@@ -316,9 +320,9 @@ fn cut(random: &mut Random, tables: &mut Owned) {
 }
 
 fn damage_tables(random: &mut Random, mesh: Mesh, tables: &mut Owned) {
-    let (points, cells) = (mesh.points as usize, mesh.cells as usize);
+    let (points, used) = (mesh.points as usize, mesh.used as usize);
     let in_points = random.index(points.saturating_mul(3).min(tables.points.len()));
-    let in_cells = random.index(cells.saturating_mul(4).min(tables.corners.len()));
+    let in_cells = random.index(used.saturating_mul(4).min(tables.corners.len()));
     match random.below(4) {
         0 => {
             if let Some(entry) = tables.points.get_mut(in_points) {
@@ -332,7 +336,7 @@ fn damage_tables(random: &mut Random, mesh: Mesh, tables: &mut Owned) {
         }
         2 => {
             if let Some(entry) = tables.neighbours.get_mut(in_cells) {
-                *entry = wrong(random, *entry as u32, mesh.cells) as u16;
+                *entry = wrong(random, *entry as u32, mesh.used) as u16;
             }
         }
         _ => {
@@ -354,7 +358,13 @@ fn fold(mesh: &mut Mesh, tables: &mut Owned) {
     if tables.points.len() < 24 || tables.corners.len() < 24 || tables.neighbours.len() < 24 {
         return;
     }
-    (mesh.points, mesh.cells) = (8, 6);
+    *mesh = Mesh {
+        points: 8,
+        cells: 6,
+        chain: NONE.into(),
+        used: 6,
+        ..*mesh
+    };
     for (k, cell) in [[0, 1, 3, 7], [0, 2, 6, 7], [0, 4, 5, 7]]
         .iter()
         .enumerate()
@@ -362,32 +372,6 @@ fn fold(mesh: &mut Mesh, tables: &mut Owned) {
         for (c, double) in [(2 * k, 2 * k + 1), (2 * k + 1, 2 * k)] {
             tables.corners[4 * c..4 * c + 4].copy_from_slice(cell);
             tables.neighbours[4 * c..4 * c + 4].fill(double as u16);
-        }
-    }
-}
-
-/// Leaves a mesh a mesh that no history of insertions gives: a cell's places turned, or two cells' numbers swapped.
-pub fn rearrange(random: &mut Random, mesh: Mesh, tables: &mut Owned) {
-    let cells = mesh.cells as usize;
-    let (a, b) = (random.index(cells), random.index(cells));
-    if random.one_in(2) {
-        // Three places turned: an even permutation.
-        let kept = random.index(2);
-        for table in [&mut tables.corners, &mut tables.neighbours] {
-            table[4 * a + kept..4 * a + kept + 3].rotate_left(1);
-        }
-        return;
-    }
-    for table in [&mut tables.corners, &mut tables.neighbours] {
-        for i in 0..4 {
-            table.swap(4 * a + i, 4 * b + i);
-        }
-    }
-    for entry in &mut tables.neighbours[..4 * cells] {
-        if *entry == a as u16 {
-            *entry = b as u16;
-        } else if *entry == b as u16 && *entry != NONE {
-            *entry = a as u16;
         }
     }
 }

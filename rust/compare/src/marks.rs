@@ -6,19 +6,22 @@ use wrong::{MarksBeforeCorrection, MarksOfTheBase};
 
 use crate::call::Call;
 
-/// A look with marks of any content: as many as cells, more, one too few, fewer or none.
+/// A look with marks of any content: as many as used entries, more, one too few, as many as cells, fewer or none.
 pub fn look(random: &mut Random, mesh: Mesh, p: Position) -> Call {
-    let cells = mesh.cells as usize;
-    let (more, fewer) = (cells + 1 + random.index(9), random.index(cells));
-    let too_few = cells.saturating_sub(1);
-    let count = random.pick(&[cells, cells, cells, more, more, too_few, fewer, 0]);
+    let (used, cells) = (mesh.used as usize, mesh.cells as usize);
+    let (more, fewer) = (used + 1 + random.index(9), random.index(used));
+    let too_few = used.saturating_sub(1);
+    let counts = [
+        used, used, used, used, more, more, more, too_few, cells, fewer, 0,
+    ];
+    let count = random.pick(&counts);
     let bits = random.pick(&[1, 255]);
     let marks = (0..count).map(|_| random.bits() as u8 & bits);
     Call::Look(marks.collect(), p)
 }
 
 /// An insertion with marks: those of a look at the node, of a look at another one, of a wrong look, or with a byte changed; and of
-/// these as many as cells, more, one too few, or none.
+/// these as many as used entries, more, one too few, as many as cells, or none.
 pub fn insert_marked(
     random: &mut Random,
     mesh: Mesh,
@@ -27,17 +30,18 @@ pub fn insert_marked(
 ) -> Call {
     let looked = |rules, p| marks(rules, mesh, tables, p);
     let mut marks = match random.below(16) {
-        0 => vec![0; mesh.cells as usize],
+        0 => vec![0; mesh.used as usize],
         1..3 => looked(&RightRules, other),
         3 => looked(&MarksBeforeCorrection, p),
         4 => looked(&MarksOfTheBase, p),
         5..8 => changed(random, looked(&RightRules, p)),
         _ => looked(&RightRules, p),
     };
-    match random.below(12) {
+    match random.below(13) {
         0 => marks.truncate(marks.len().saturating_sub(1)),
         1 => marks.clear(),
-        2..5 => marks.extend((0..1 + random.index(9)).map(|_| random.bits() as u8)),
+        2 => marks.truncate(mesh.cells as usize),
+        3..6 => marks.extend((0..1 + random.index(9)).map(|_| random.bits() as u8)),
         _ => {}
     }
     Call::InsertMarked(marks, p)
@@ -50,7 +54,7 @@ fn marks(rules: &dyn Rules, mesh: Mesh, tables: &Owned, p: Position) -> Vec<u8> 
     roomy.corners.resize(4 * CELL_LIMIT, 0);
     roomy.neighbours.resize(4 * CELL_LIMIT, 0);
     roomy.work.resize(3 * CELL_LIMIT, 0);
-    let mut marks = vec![0; mesh.cells as usize];
+    let mut marks = vec![0; mesh.used as usize];
     plain::look_with(rules, mesh, &mut roomy.lend(), &mut marks, p);
     marks
 }

@@ -2,7 +2,7 @@
 
 use plain::nodefile::encode;
 use plain::random::Random;
-use plain::{Position, SIDE_LIMIT};
+use plain::{Mesh, Position, SIDE_LIMIT};
 
 /// How the nodes of a history lie.
 #[derive(Clone, Copy, Debug)]
@@ -161,11 +161,12 @@ pub fn filling(random: &mut Random, sides: Position, count: usize) -> Vec<u32> {
     numbers
 }
 
-/// Answer bytes for so many cells: all yes, all no, any; now and then too few or too many.
-pub fn answers(random: &mut Random, cells: usize) -> Vec<u8> {
+/// An answer byte for each used entry: all yes, all no, any; now and then too few, as many as cells, or too many.
+pub fn answers(random: &mut Random, mesh: Mesh) -> Vec<u8> {
+    let used = mesh.used as usize;
     let one_in = random.pick(&[2, 2, 5, 20]);
     let kind = random.below(4);
-    let mut bytes: Vec<u8> = (0..cells)
+    let mut bytes: Vec<u8> = (0..used)
         .map(|_| match kind {
             0 => 0,
             1 => 1,
@@ -173,10 +174,11 @@ pub fn answers(random: &mut Random, cells: usize) -> Vec<u8> {
             _ => (random.below(one_in) != 0) as u8,
         })
         .collect();
-    match random.below(16) {
-        0 => bytes.truncate(random.index(cells + 1)),
-        1 => bytes.truncate(cells.saturating_sub(1)),
-        2 => bytes.resize(cells + 1 + random.index(9), 1),
+    match random.below(17) {
+        0 => bytes.truncate(random.index(used + 1)),
+        1 => bytes.truncate(used.saturating_sub(1)),
+        2 => bytes.truncate(mesh.cells as usize),
+        3 => bytes.resize(used + 1 + random.index(9), 1),
         _ => {}
     }
     bytes

@@ -20,9 +20,9 @@ pub struct Script {
 pub enum Line {
     /// `sphere 1 2 3`
     Sphere(Position),
-    /// `answers 110101 1 2 3`, with a digit a cell, 0 for no.
+    /// `answers 110101 1 2 3`, with a digit an entry, 0 for no.
     Answers(Vec<u8>, Position),
-    /// `look 1 2 3`, lent some marks more than cells.
+    /// `look 1 2 3`, lent some marks more than used entries.
     Look(Position),
     /// `marked 111111 1 2 3`: an insertion with these marks, a digit a byte.
     Marked(Vec<u8>, Position),
@@ -32,14 +32,33 @@ pub enum Line {
     Check,
     /// `merge 1 2 3 2 2 2 and 1 2 3`: two files of the box, with these nodes.
     Merge([Vec<Position>; 2]),
-    /// `cell 0 0 1 3 7 - 1 5 -`: no call, but a cell put into the tables, as a listing has it.
+    /// `cell 0 0 1 3 7 - 1 5 -`: no call, but a cell put into the tables, as a listing has it; or a freed entry, with dashes for
+    /// corners.
     Cell(u16, Cell),
+    /// `record cells 12 chain 5 used 18`: no call, but these numbers put into the record.
+    Record(Record),
 }
 
-const KINDS: &str = "'sphere', 'answers', 'look', 'marked', 'locate', 'check', 'merge' or 'cell'";
+#[derive(Debug, PartialEq, Eq)]
+pub struct Record {
+    cells: u32,
+    chain: u32,
+    used: u32,
+}
+
+const KINDS: &str =
+    "'sphere', 'answers', 'look', 'marked', 'locate', 'check', 'merge', 'cell' or 'record'";
 
 fn number<T: std::str::FromStr>(word: &str) -> Result<T, String> {
     word.parse().map_err(|_| format!("{word}: no number"))
+}
+
+/// A dash for 65,535.
+fn number_or_dash<T: std::str::FromStr + From<u16>>(word: &str) -> Result<T, String> {
+    match word {
+        "-" => Ok(NONE.into()),
+        word => number(word),
+    }
 }
 
 fn position(words: &[&str]) -> Result<Position, String> {
@@ -74,15 +93,32 @@ fn cell(words: &[&str]) -> Result<Line, String> {
     let &[place, a, b, c, d, e, f, g, h] = words else {
         return Err("not a number, four corners and four neighbours".to_string());
     };
-    let neighbour = |word| match word {
-        "-" => Ok(NONE),
-        word => number(word),
-    };
     let cell = Cell {
-        corners: [number(a)?, number(b)?, number(c)?, number(d)?],
-        neighbours: [neighbour(e)?, neighbour(f)?, neighbour(g)?, neighbour(h)?],
+        corners: [
+            number_or_dash(a)?,
+            number_or_dash(b)?,
+            number_or_dash(c)?,
+            number_or_dash(d)?,
+        ],
+        neighbours: [
+            number_or_dash(e)?,
+            number_or_dash(f)?,
+            number_or_dash(g)?,
+            number_or_dash(h)?,
+        ],
     };
     Ok(Line::Cell(number(place)?, cell))
+}
+
+fn record(words: &[&str]) -> Result<Line, String> {
+    match words {
+        ["cells", cells, "chain", chain, "used", used] => Ok(Line::Record(Record {
+            cells: number(cells)?,
+            chain: number_or_dash(chain)?,
+            used: number(used)?,
+        })),
+        _ => Err("not 'record cells C chain N used U'".to_string()),
+    }
 }
 
 fn positions(words: &[&str]) -> Result<Vec<Position>, String> {
@@ -111,6 +147,7 @@ fn line(text: &str, room: u16) -> Result<Line, String> {
             Line::Cell(place, _) if place >= room => Err(format!("no room for a cell {place}")),
             cell => Ok(cell),
         },
+        ["record", ref numbers @ ..] => record(numbers),
         _ => Err(format!("not a line of {KINDS}")),
     }
 }
@@ -130,16 +167,16 @@ fn said(report: Looked) -> String {
     }
 }
 
-/// How many marks are lent beyond the cells, and what all are before a look.
+/// How many marks are lent beyond the used entries, and what all are before a look.
 const BEYOND: usize = 3;
 const UNMARKED: u8 = 9;
 
 /// The report and the marks, a digit each, or the refusal.
 fn looked(build: &dyn Builder, mesh: Mesh, tables: &mut Owned, p: Position) -> String {
-    let mut marks = vec![UNMARKED; mesh.cells as usize + BEYOND];
+    let mut marks = vec![UNMARKED; mesh.used as usize + BEYOND];
     let report = build.look(mesh, &mut tables.lend(), &mut marks, p);
     let digits = |marks: &[u8]| marks.iter().map(u8::to_string).collect::<String>();
-    let (marks, beyond) = marks.split_at(mesh.cells as usize);
+    let (marks, beyond) = marks.split_at(mesh.used as usize);
     match report.refusal {
         0 => format!(
             "look {}marks {} beyond {}\n",
@@ -233,6 +270,15 @@ impl Line {
                 let entries = 4 * *place as usize..4 * *place as usize + 4;
                 tables.corners[entries.clone()].copy_from_slice(&cell.corners);
                 tables.neighbours[entries].copy_from_slice(&cell.neighbours);
+                return String::new();
+            }
+            &Line::Record(Record { cells, chain, used }) => {
+                *mesh = Mesh {
+                    cells,
+                    chain,
+                    used,
+                    ..*mesh
+                };
                 return String::new();
             }
         };

@@ -13,7 +13,7 @@ use compare::{Builder, Tuned};
 use plain::geometry::{exact_sum, float_sum};
 use plain::loaded::Loaded;
 use plain::random::Random;
-use plain::{Answers, Looked, Mesh, Owned, Position, SIDE_LIMIT};
+use plain::{Answers, Looked, Mesh, Owned, Position, RightRules, SIDE_LIMIT};
 
 /// How the nodes lie.
 #[derive(Clone, Copy)]
@@ -85,17 +85,17 @@ impl Bed<'_> {
 
     /// Any call that may not put a node in by answers handed in.
     fn call(&self, random: &mut Random) -> Call {
-        let cells = self.mesh.cells as usize;
+        let used = self.mesh.used as usize;
         let taken = self.tables.points.as_chunks().0[random.index(self.mesh.points as usize)];
         let [x, y, _] = self.sides;
         match random.below(12) {
             0..4 => Call::Insert(self.node(random)),
             4..6 => Call::InsertList((0..5).flat_map(|_| self.node(random)).collect()),
-            6 => Call::InsertAnswers(vec![1; cells - 1], self.node(random)),
-            7 => Call::InsertAnswers(vec![1; cells], taken),
-            8 => Call::Look(vec![0; cells - random.index(2)], self.node(random)),
+            6 => Call::InsertAnswers(vec![1; used - 1], self.node(random)),
+            7 => Call::InsertAnswers(vec![1; used], taken),
+            8 => Call::Look(vec![0; used - random.index(2)], self.node(random)),
             9 => looked(self.build, self.mesh, &self.tables, self.node(random)),
-            10 => Call::InsertMarked(vec![2; cells], self.node(random)),
+            10 => Call::InsertMarked(vec![2; used], self.node(random)),
             _ => Call::InsertList([self.node(random), [x, y + 1, 0]].concat()),
         }
     }
@@ -153,8 +153,8 @@ fn situations(e: i128, t: f64) -> [(&'static str, bool); 4] {
 
 /// Every cell with every point; or a point that is strictly inside a cell's sphere.
 fn look_at_spheres(bed: &mut Bed, counts: &mut Counts) -> Result<(), String> {
-    let mesh = Loaded::load(bed.mesh, &bed.tables.lend());
-    for c in 0..mesh.cells.len() {
+    let mesh = Loaded::load(&RightRules, bed.mesh, &bed.tables.lend());
+    for c in mesh.cells() {
         let corners = mesh.positions(c);
         for &p in mesh.points.iter().filter(|p| !corners.contains(p)) {
             let e = exact_sum(corners, p);
@@ -219,7 +219,7 @@ fn which_wrong_builds_break_it() {
 fn handed_in(answer: u8, nodes: &[Position]) -> Bed<'static> {
     let mut bed = Bed::started(&Tuned, [4; 3], Places::Cluster([0; 3]));
     for &p in nodes {
-        let bytes = vec![answer; bed.mesh.cells as usize];
+        let bytes = vec![answer; bed.mesh.used as usize];
         let answers = Answers::Given(&bytes);
         bed.mesh = Tuned
             .insert(bed.mesh, &mut bed.tables.lend(), answers, p)

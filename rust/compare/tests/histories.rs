@@ -6,25 +6,14 @@ use std::fmt::Write;
 
 use compare::{named, Script};
 
-/// The table holds histories of six wrong corrections; these builds are not among them.
-const NOT_IN_THE_TABLE: [&str; 17] = [
-    "coplanar-starred",
-    "base-removed",
-    "far-side-left-out",
-    "tie-inside",
-    "float-sign",
-    "close-outside",
-    "lowest-numbered",
-    "corners-unsorted",
-    "greatest-first",
-    "last-in-order",
-    "second-first",
-    "across-files-only",
-    "marks-before-correction",
-    "marks-of-the-base",
-    "marks-cleared-past-the-count",
-    "any-nonzero-mark",
-    "marks-first",
+/// The table holds histories of these wrong corrections.
+const IN_THE_TABLE: [&str; 6] = [
+    "zero-visible",
+    "visibility-only",
+    "lost-corners-only",
+    "coplanar-keeps",
+    "one-round",
+    "one-at-a-time",
 ];
 
 fn read(path: &str) -> String {
@@ -74,7 +63,7 @@ fn calls(piece: &str) -> String {
     text
 }
 
-/// The last insertion's report, and the cells.
+/// The last insertion's report, and the cells, without freed entries.
 fn left(piece: &str) -> String {
     let counts = numbers(between(piece, "counts", ")"));
     let report = numbers(between(piece, "record {", "}"));
@@ -82,10 +71,11 @@ fn left(piece: &str) -> String {
         "point {} before {} after {} made {} least {}\nbox 4 4 4 points {} cells {}\n",
         report[0], report[1], report[2], report[3], report[4], counts[0], counts[1]
     );
-    let cells = between(piece, "cells =", "[]").replace("none", "-");
-    for (number, cell) in cells.split("cell ").skip(1).enumerate() {
-        let words: Vec<&str> = cell.split_whitespace().take(8).collect();
-        let _ = writeln!(text, "{number} {}", words.join(" "));
+    let entries = between(piece, "entries =", "[]").replace("none", "-");
+    for (number, entry) in entries.split('∷').enumerate() {
+        if let Some(cell) = entry.trim().strip_prefix("cell ") {
+            let _ = writeln!(text, "{number} {cell}");
+        }
     }
     text
 }
@@ -94,12 +84,8 @@ fn left(piece: &str) -> String {
 fn they_are_the_proved_ones() {
     let table = read("crates/pieces/specs/Separating.antt");
     let pieces = pieces(&table);
-    let mut names: Vec<&str> = pieces.iter().map(|&(name, _)| name).collect();
-    names.extend(NOT_IN_THE_TABLE);
-    names.sort();
-    let mut wrong = wrong::ALL.map(|build| build.name);
-    wrong.sort();
-    assert_eq!(names, wrong);
+    let names: Vec<&str> = pieces.iter().map(|&(name, _)| name).collect();
+    assert_eq!(names, IN_THE_TABLE);
     for (name, piece) in pieces {
         assert_eq!(
             read(&format!("examples/histories/{name}.calls")),
@@ -126,16 +112,37 @@ fn the_parked_head_is_the_proved_one() {
         "box {x} {y} {z} points 11 cells {cells}\nsphere {nodes}\nlocate {head}\nsphere {node}\nlocate {head}\n"
     );
     assert_eq!(read("examples/histories/lowest-numbered.calls"), calls);
+    let cell = |from: &str| line(from).pop().expect("a cell");
+    let (before, after) = (cell("pub located :"), cell("pub located-again :"));
+    let corners = format!("pub corners-{before} :");
     let expected = read("examples/histories/lowest-numbered.txt");
-    for (cell, corners) in [
-        ("pub located :", "pub corners-11 :"),
-        ("pub located-again :", "pub same-corners :"),
-    ] {
-        let cell = line(cell).pop().expect("a cell");
+    for (cell, corners) in [(before, &corners[..]), (after, "pub same-corners :")] {
         let corners = &line(corners)[1..];
         let located = format!("\ncell {cell} corners {}\n", words(corners));
         assert!(expected.contains(&located), "{located}");
     }
+}
+
+#[test]
+fn each_is_of_a_wrong_build() {
+    let folder = format!("{}/../../examples/histories", env!("CARGO_MANIFEST_DIR"));
+    let files = std::fs::read_dir(&folder).expect("the histories");
+    let mut files: Vec<String> = files
+        .map(|file| {
+            file.expect("a file")
+                .file_name()
+                .into_string()
+                .expect("a name")
+        })
+        .collect();
+    files.sort();
+    let names = wrong::ALL.map(|build| build.name);
+    let mut expected: Vec<String> = names
+        .iter()
+        .flat_map(|name| [format!("{name}.calls"), format!("{name}.txt")])
+        .collect();
+    expected.sort();
+    assert_eq!(files, expected);
 }
 
 #[test]
@@ -215,5 +222,11 @@ fn a_bad_line_is_named() {
     assert_eq!(
         after("check\ncell 18 0 1 3 7 - - - -"),
         "line 3: no room for a cell 18"
+    );
+    let record = "line 2: not 'record cells C chain N used U'";
+    assert_eq!(after("record cells 6 chain - used"), record);
+    assert_eq!(
+        after("record cells - chain - used 6"),
+        "line 2: -: no number"
     );
 }

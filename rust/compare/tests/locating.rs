@@ -17,7 +17,7 @@ type Situations = Vec<(&'static str, bool)>;
 /// A position and the cells that hold it, in the order of their corners.
 struct Held {
     p: Position,
-    mesh: Loaded,
+    mesh: Loaded<'static>,
     cells: Vec<usize>,
 }
 
@@ -30,26 +30,27 @@ impl Held {
         if located.refusal != 0 {
             return None;
         }
-        let mesh = Loaded::load(step.mesh, &step.tables.clone().lend());
+        let mesh = Loaded::load(&RightRules, step.mesh, &step.tables.clone().lend());
         let mut cells = mesh.holding(*p);
-        cells.sort_by_key(|&c| RightRules.order(c, mesh.cells[c].corners));
+        cells.sort_by_key(|&c| RightRules.order(c, mesh.entries[c].corners));
         Some(Held { p: *p, mesh, cells })
     }
 
     /// The cell that is located by some rules.
     fn by(&self, rules: &dyn Rules) -> usize {
         let cells = self.cells.iter().copied();
-        let first = cells.min_by_key(|&c| rules.order(c, self.mesh.cells[c].corners));
+        let first = cells.min_by_key(|&c| rules.order(c, self.mesh.entries[c].corners));
         first.expect("a cell holds it")
     }
 
     fn sorted(&self, c: usize) -> [u16; 4] {
-        RightRules.order(c, self.mesh.cells[c].corners)
+        RightRules.order(c, self.mesh.entries[c].corners)
     }
 
     /// Is there a cell with these corners?
     fn has(&self, corners: [u16; 4]) -> bool {
-        (0..self.mesh.cells.len()).any(|c| self.sorted(c) == corners)
+        let mut cells = self.mesh.cells().into_iter();
+        cells.any(|c| self.sorted(c) == corners)
     }
 
     /// Of the same position, before an insertion or more?

@@ -86,13 +86,12 @@ impl Bed<'_> {
     }
 }
 
-/// The cells by their corners, each sorted upward.
-fn cells(mesh: Mesh, tables: &Owned) -> Vec<[u16; 4]> {
-    let mesh = Loaded::load(mesh, &tables.clone().lend());
-    let cells = mesh.cells.iter().enumerate();
-    cells
-        .map(|(c, cell)| RightRules.order(c, cell.corners))
-        .collect()
+/// The cells by number, and their corners, each sorted upward.
+fn cells(mesh: Mesh, tables: &Owned) -> Vec<(usize, [u16; 4])> {
+    let mesh = Loaded::load(&RightRules, mesh, &tables.clone().lend());
+    let corners = |c: usize| RightRules.order(c, mesh.entries[c].corners);
+    let cells = mesh.cells().into_iter();
+    cells.map(|c| (c, corners(c))).collect()
 }
 
 /// A look at a node, with the marks before it and after it, and the plain insertion beside it.
@@ -111,13 +110,13 @@ impl Look {
     }
 }
 
-/// Neither the tables, nor marks beyond the cells, nor any mark where it is refused.
+/// Neither the tables, nor marks beyond the used entries, nor any mark where it is refused.
 fn changes_nothing_else(bed: &Bed, look: &Look, _: &mut Random) -> bool {
-    let cells = match look.is_accepted() {
-        true => bed.mesh.cells as usize,
+    let used = match look.is_accepted() {
+        true => bed.mesh.used as usize,
         false => 0,
     };
-    look.left == bed.tables && look.marks[cells..] == look.before[cells..]
+    look.left == bed.tables && look.marks[used..] == look.before[used..]
 }
 
 /// The same report, or refused with the same number.
@@ -127,8 +126,8 @@ fn answers_the_report(_: &Bed, look: &Look, _: &mut Random) -> bool {
 }
 
 /// With too few it is refused 10, unless the insertion is refused; and nothing changes.
-fn needs_a_mark_a_cell(bed: &Bed, look: &Look, random: &mut Random) -> bool {
-    let count = random.index(bed.mesh.cells as usize);
+fn needs_a_mark_an_entry(bed: &Bed, look: &Look, random: &mut Random) -> bool {
+    let count = random.index(bed.mesh.used as usize);
     let short = bed.look(look.before[..count].to_vec(), look.p);
     let refusal = match look.is_accepted() {
         true => 10,
@@ -147,7 +146,7 @@ fn goes_in_plainly(bed: &Bed, look: &Look, _: &mut Random) -> bool {
 /// One byte is another, or they are too few: 14, and nothing changes.
 fn refuses_other_marks(bed: &Bed, look: &Look, random: &mut Random) -> bool {
     let mut marks = look.marks.clone();
-    let place = random.index(bed.mesh.cells as usize);
+    let place = random.index(bed.mesh.used as usize);
     match random.one_in(4) {
         true => marks.truncate(place),
         false => marks[place] ^= random.pick(&[1, 2, 3, 254]),
@@ -158,17 +157,19 @@ fn refuses_other_marks(bed: &Bed, look: &Look, random: &mut Random) -> bool {
 
 /// Whatever the marks, an insertion is refused where the plain one is, with the same number.
 fn is_refused_alike(bed: &Bed, look: &Look, random: &mut Random) -> bool {
-    let marks = vec![random.below(3) as u8; random.pick(&[0, bed.mesh.cells as usize])];
+    let marks = vec![random.below(3) as u8; random.pick(&[0, bed.mesh.used as usize])];
     look.is_accepted() || bed.insert_marked(&marks, look.p) == look.plainly
 }
 
-/// Of the corners of a marked cell no cell is left, and of those of another one there is.
+/// Of the corners of a marked cell no cell is left, and one with those of another cell has its number still; freed entries are not
+/// marked.
 fn marks_what_is_replaced(bed: &Bed, look: &Look, _: &mut Random) -> bool {
     let (answer, tables) = &look.plainly;
-    let left: BTreeSet<_> = cells(answer.mesh, tables).into_iter().collect();
-    let before = cells(bed.mesh, &bed.tables);
-    let mut marked = before.iter().zip(&look.marks);
-    !look.is_accepted() || marked.all(|(cell, &mark)| mark == u8::from(!left.contains(cell)))
+    let before: BTreeSet<_> = cells(bed.mesh, &bed.tables).into_iter().collect();
+    let left = cells(answer.mesh, tables).into_iter().collect();
+    let replaced: Vec<usize> = before.difference(&left).map(|&(c, _)| c).collect();
+    let mut marks = look.marks[..bed.mesh.used as usize].iter().enumerate();
+    !look.is_accepted() || marks.all(|(c, &mark)| mark == u8::from(replaced.contains(&c)))
 }
 
 type Law = fn(&Bed, &Look, &mut Random) -> bool;
@@ -176,7 +177,7 @@ type Law = fn(&Bed, &Look, &mut Random) -> bool;
 const LAWS: [(&str, Law); 7] = [
     ("changes nothing else", changes_nothing_else),
     ("answers the report", answers_the_report),
-    ("needs a mark a cell", needs_a_mark_a_cell),
+    ("needs a mark an entry", needs_a_mark_an_entry),
     ("goes in plainly", goes_in_plainly),
     ("refuses other marks", refuses_other_marks),
     ("is refused alike", is_refused_alike),
@@ -184,7 +185,7 @@ const LAWS: [(&str, Law); 7] = [
 ];
 
 #[rustfmt::skip]
-fn situations(bed: &Bed, look: &Look) -> [(&'static str, bool); 9] {
+fn situations(bed: &Bed, look: &Look) -> [(&'static str, bool); 10] {
     let Looked { refusal, before, after, .. } = look.answer;
     let cells = bed.mesh.cells;
     [
@@ -192,7 +193,8 @@ fn situations(bed: &Bed, look: &Look) -> [(&'static str, bool); 9] {
         ("nothing is removed", refusal == 0 && before == after),
         ("every cell is replaced", after == cells),
         ("few cells are replaced", refusal == 0 && 3 * after < cells),
-        ("marks beyond the cells", refusal == 0 && look.marks.len() > cells as usize),
+        ("freed entries", refusal == 0 && bed.mesh.used > cells),
+        ("marks beyond the used entries", refusal == 0 && look.marks.len() > bed.mesh.used as usize),
         ("outside", refusal == 4),
         ("taken", refusal == 5),
         ("points are full", refusal == 6),
@@ -203,7 +205,7 @@ fn situations(bed: &Bed, look: &Look) -> [(&'static str, bool); 9] {
 /// Looks at a node, and says which law is broken; then a node goes in, this one or another.
 fn look_first(bed: &mut Bed, random: &mut Random, counts: &mut Counts) -> Result<(), &'static str> {
     let p = bed.node(random);
-    let count = bed.mesh.cells as usize + random.index(4);
+    let count = bed.mesh.used as usize + random.index(4);
     let before = (0..count).map(|_| random.bits() as u8).collect();
     let look = bed.look(before, p);
     for (law, holds) in LAWS {
@@ -212,7 +214,7 @@ fn look_first(bed: &mut Bed, random: &mut Random, counts: &mut Counts) -> Result
         }
     }
     counts.add(situations(bed, &look));
-    let answers = nodes::answers(random, bed.mesh.cells as usize);
+    let answers = nodes::answers(random, bed.mesh);
     let next = match random.below(3) {
         0 => bed.insert_marked(&look.marks, p),
         _ => bed.insert(Answers::Given(&answers), bed.node(random)),
@@ -238,7 +240,7 @@ fn many_looks(build: &dyn Builder) -> Result<Counts, &'static str> {
 fn they_hold_of_each_right_build() {
     for build in right_builds() {
         let counts = many_looks(build.as_ref()).expect("every law");
-        counts.all_occur(9);
+        counts.all_occur(10);
     }
 }
 
@@ -248,9 +250,12 @@ fn which_law_each_wrong_build_breaks() {
         // The insertion goes by the same marks, so that look and insertion agree.
         ("marks-before-correction", "marks what is replaced"),
         ("marks-of-the-base", "marks what is replaced"),
-        ("marks-cleared-past-the-count", "changes nothing else"),
+        ("marks-cleared-past-the-used", "changes nothing else"),
         ("any-nonzero-mark", "refuses other marks"),
         ("marks-first", "is refused alike"),
+        ("marks-by-the-count", "marks what is replaced"),
+        ("freed-unmarked", "goes in plainly"),
+        ("freed-mark-ignored", "refuses other marks"),
     ] {
         let build = compare::named(name).expect("a build");
         assert_eq!(many_looks(build.as_ref()).err(), Some(law), "{name}");

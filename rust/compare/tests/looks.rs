@@ -10,15 +10,16 @@ use compare::Tuned;
 use plain::found::{find, Found};
 use plain::loaded::Loaded;
 use plain::random::Random;
-use plain::{Answers, Position, RightRules};
+use plain::{Answers, Mesh, Position, RightRules};
 
 type Situations = Vec<(&'static str, bool)>;
 
-/// The marks of three cavities: the base, before the correction, and after it.
+/// The marks of three cavities: the base, before the correction, and after it; and the freed entries.
 struct Marks {
     base: Vec<u8>,
     grown: Vec<u8>,
     right: Vec<u8>,
+    is_freed: Vec<bool>,
     least: f64,
 }
 
@@ -29,6 +30,9 @@ impl Marks {
             base: bytes(&found.cavity.in_base),
             grown: bytes(&found.grown),
             right: bytes(&found.cavity.in_cavity),
+            is_freed: (0..found.grown.len())
+                .map(|c| found.cavity.mesh.is_freed(c))
+                .collect(),
             least: found.least,
         }
     }
@@ -40,13 +44,17 @@ impl Marks {
         }
         let mut tables = step.tables.clone();
         let tables = tables.lend();
-        let mesh = Loaded::load(step.mesh, &tables);
-        let found = find(&RightRules, &mesh, &tables, Answers::SphereTest, p).ok()?;
+        let mesh = Loaded::load(&RightRules, step.mesh, &tables);
+        let found = find(&mesh, &tables, Answers::SphereTest, p).ok()?;
         Some(Marks::of(&found))
     }
 
-    fn cells(&self) -> usize {
+    fn used(&self) -> usize {
         self.right.len()
+    }
+
+    fn cells(&self) -> usize {
+        self.is_freed.iter().filter(|&&yes| !yes).count()
     }
 }
 
@@ -58,32 +66,39 @@ fn count(marks: &[u8]) -> usize {
 #[rustfmt::skip]
 fn of_marked(before: &[u8], marks: &Marks) -> Situations {
     let (base, grown, right) = (count(&marks.base), count(&marks.grown), count(&marks.right));
-    let cells = marks.cells();
-    let beyond = &before[cells..];
+    let (used, cells) = (marks.used(), marks.cells());
+    let beyond = &before[used..];
     let changes = marks.right.windows(2).filter(|pair| pair[0] != pair[1]).count();
+    let mut of_freed = before.iter().zip(&marks.is_freed).filter(|(_, &is_freed)| is_freed);
     vec![
         ("a look: more than the base, nothing to correct", base < right && right == grown),
         ("a look: cells are removed, and more than the base is left", base < right && right < grown),
         ("a look: cells are removed, and the base is left", base == right && right < grown),
         ("a look: one cell is marked", right == 1),
         ("a look: every cell is marked", right == cells),
-        ("a look: the first cell is not marked", marks.right[0] == 0),
-        ("a look: the last cell is not marked", marks.right[cells - 1] == 0),
+        ("a look: the first cell is not marked", !marks.is_freed[0] && marks.right[0] == 0),
+        ("a look: the last cell is not marked", !marks.is_freed[used - 1] && marks.right[used - 1] == 0),
+        ("a look: the first entry is freed", marks.is_freed[0]),
+        ("a look: the last entry is freed", marks.is_freed[used - 1]),
+        ("a look: a freed entry's mark was not 0", of_freed.any(|(&mark, _)| mark != 0)),
+        ("a look: a cell past the count is marked", marks.right[cells..].contains(&1)),
         ("a look: marked cells in several runs", changes > 2),
         ("a look: more than 256 cells", cells > 256),
         ("a look: the least T is below 0", marks.least < 0.0),
-        ("a look: as many marks as cells", beyond.is_empty()),
+        ("a look: as many marks as entries", beyond.is_empty()),
         ("a look: marks beyond that are neither 0 nor 1", beyond.iter().any(|&mark| mark > 1)),
         ("a look: all marks are 0 or 1 before", before.iter().all(|&mark| mark < 2)),
     ]
 }
 
 #[rustfmt::skip]
-fn of_look(lent: &[u8], cells: usize, outcome: u8) -> Situations {
-    let is_short = |refusal| outcome == refusal && lent.len() < cells;
+fn of_look(lent: &[u8], mesh: Mesh, outcome: u8) -> Situations {
+    let (used, cells) = (mesh.used as usize, mesh.cells as usize);
+    let is_short = |refusal| outcome == refusal && lent.len() < used;
     vec![
         ("a look: no marks, refused 10", outcome == 10 && lent.is_empty()),
-        ("a look: one mark too few, refused 10", outcome == 10 && lent.len() + 1 == cells),
+        ("a look: one mark too few, refused 10", outcome == 10 && lent.len() + 1 == used),
+        ("a look: as many marks as cells, refused 10", outcome == 10 && lent.len() == cells),
         ("a look: too few marks, refused 1", is_short(1)),
         ("a look: too few marks, refused 2", is_short(2)),
         ("a look: too few marks, refused 3", is_short(3)),
@@ -111,10 +126,12 @@ fn of_one_mark(given: &[u8], marks: &Marks) -> Situations {
         ("marks: a 255 for a 1", is_one(1, |given| given == 255)),
         ("marks: a 1 for a 0", is_one(0, |given| given == 1)),
         ("marks: more than 1 for a 0", is_one(0, |given| given > 1)),
-        ("marks: the first cell's alone is another", one.is_some_and(|(c, ..)| c == 0)),
-        ("marks: the last cell's alone is another", one.is_some_and(|(c, ..)| c + 1 == right.len())),
+        ("marks: the first entry's alone is another", one.is_some_and(|(c, ..)| c == 0)),
+        ("marks: the last entry's alone is another", one.is_some_and(|(c, ..)| c + 1 == right.len())),
+        ("marks: a freed entry's alone is another", one.is_some_and(|(c, ..)| marks.is_freed[c])),
         ("marks: several are others", other.len() > 1),
         ("marks: one too few, the rest right", other.is_empty() && given.len() + 1 == right.len()),
+        ("marks: as many as cells, the rest right", other.is_empty() && given.len() == marks.cells() && given.len() < right.len()),
     ]
 }
 
@@ -128,7 +145,8 @@ fn of_given(given: &[u8], marks: &Marks, outcome: u8) -> Situations {
         ("marks: right", outcome == 0 && beyond.is_empty()),
         ("marks: right, and others beyond", outcome == 0 && beyond.iter().any(|&mark| mark > 1)),
         ("marks: right, where cells are removed", outcome == 0 && is_corrected),
-        ("marks: right, with more than 256 cells", outcome == 0 && right.len() > 256),
+        ("marks: right, with more than 256 entries", outcome == 0 && right.len() > 256),
+        ("marks: right, with freed entries", outcome == 0 && marks.cells() < right.len()),
         ("marks: none", outcome == 14 && given.is_empty()),
         ("marks: all 0", outcome == 14 && !given.is_empty() && given.iter().all(|&mark| mark == 0)),
         ("marks: of the cavity before its correction", outcome == 14 && given.starts_with(grown)),
@@ -141,8 +159,8 @@ fn of_given(given: &[u8], marks: &Marks, outcome: u8) -> Situations {
 
 /// Of an insertion that was refused before the cavity is looked for.
 #[rustfmt::skip]
-fn of_refused(given: &[u8], cells: usize, outcome: u8) -> Situations {
-    let is_short = |refusal| outcome == refusal && given.len() < cells;
+fn of_refused(given: &[u8], used: usize, outcome: u8) -> Situations {
+    let is_short = |refusal| outcome == refusal && given.len() < used;
     vec![
         ("marks: too few, refused 1", is_short(1)),
         ("marks: too few, refused 2", is_short(2)),
@@ -168,19 +186,19 @@ fn of_looked(given: &[u8], p: Position, looked: &Looked, outcome: u8) -> Situati
 }
 
 fn situations(step: &Step, left: &Left, looked: &Looked) -> Situations {
-    let (outcome, cells) = (left.answer.outcome(), step.mesh.cells as usize);
+    let outcome = left.answer.outcome();
     match &step.call {
         Call::Look(lent, p) => {
             let marks = Marks::of_call(step, *p, outcome).filter(|_| outcome == 0);
             let marked = marks.map_or(vec![], |marks| of_marked(lent, &marks));
-            [marked, of_look(lent, cells, outcome)].concat()
+            [marked, of_look(lent, step.mesh, outcome)].concat()
         }
         Call::InsertMarked(given, p) => {
             let of_marks = match Marks::of_call(step, *p, outcome) {
                 Some(marks) => {
                     [of_one_mark(given, &marks), of_given(given, &marks, outcome)].concat()
                 }
-                None => of_refused(given, cells, outcome),
+                None => of_refused(given, step.mesh.used as usize, outcome),
             };
             [of_marks, of_looked(given, *p, looked, outcome)].concat()
         }
@@ -217,5 +235,5 @@ fn counts(seed: u64, calls: u64) -> Counts {
 
 #[test]
 fn every_situation_occurs() {
-    counts(1, 60_000).all_occur(52);
+    counts(1, 60_000).all_occur(60);
 }

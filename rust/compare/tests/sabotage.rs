@@ -11,8 +11,14 @@ enum Harm {
     None,
     /// A work entry is left.
     Work,
-    /// An entry past the cells is cleared.
+    /// An entry past the used ones is cleared.
     Corner,
+    /// An entry is freed with a neighbour left.
+    Freed,
+    /// The used length is one more.
+    Used,
+    /// The chain is another one in its high bits.
+    Chain,
     /// The least T of handed-in answers is −0.0.
     Sign,
     /// A refused record is cleared.
@@ -25,7 +31,7 @@ enum Harm {
     Place,
     /// A located cell is refused.
     Unheld,
-    /// A look changes a mark past the cells.
+    /// A look changes a mark past the used entries.
     MarkBeyond,
     /// A refused look changes a mark.
     MarkRefused,
@@ -43,6 +49,17 @@ impl Harmed {
         match self.0 {
             Harm::Work => tables.work.iter_mut().rev().take(1).for_each(|w| *w = 1),
             Harm::Corner => tables.corners.iter_mut().rev().take(1).for_each(|c| *c = 0),
+            _ => {}
+        }
+    }
+
+    /// Of one that was accepted, and freed an entry.
+    fn harm_insertion(&self, tables: &mut Tables, answer: &mut Inserted) {
+        let Inserted { refusal, mesh, .. } = answer;
+        match self.0 {
+            Harm::Freed if *refusal == 0 => tables.neighbours[4 * mesh.chain as usize + 3] = 0,
+            Harm::Used if *refusal == 0 => mesh.used += 1,
+            Harm::Chain if *refusal == 0 => mesh.chain |= 1 << 16,
             _ => {}
         }
     }
@@ -73,6 +90,7 @@ impl Builder for Harmed {
 
     fn insert(&self, mesh: Mesh, tables: &mut Tables, answers: Answers, p: Position) -> Inserted {
         let mut answer = Tuned.insert(mesh, tables, answers, p);
+        self.harm_insertion(tables, &mut answer);
         match (self.0, answers) {
             (Harm::Record, Answers::SphereTest) if answer.refusal != 0 => {
                 answer.mesh = Mesh::default()
@@ -86,7 +104,7 @@ impl Builder for Harmed {
     fn look(&self, mesh: Mesh, tables: &mut Tables, marks: &mut [u8], p: Position) -> Looked {
         let answer = Tuned.look(mesh, tables, marks, p);
         let place = match (self.0, answer.refusal) {
-            (Harm::MarkBeyond, 0) => mesh.cells as usize,
+            (Harm::MarkBeyond, 0) => mesh.used as usize,
             (Harm::MarkRefused, 1..) => 0,
             _ => marks.len(),
         };
@@ -156,6 +174,9 @@ fn every_harm_is_found() {
     let cases = [
         (Harm::Work, "work["),
         (Harm::Corner, "corners["),
+        (Harm::Freed, "neighbours["),
+        (Harm::Used, "answer: "),
+        (Harm::Chain, "answer: "),
         (Harm::Sign, "answer: "),
         (Harm::Record, "answer: "),
         (Harm::Byte, "output["),

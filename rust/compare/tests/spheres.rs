@@ -50,13 +50,13 @@ fn situations((e, t): Sums) -> [(&'static str, bool); 16] {
 
 /// The sums of the cells that are asked when a node goes in by the sphere test: those of its cavity, and their neighbours.
 fn asked(mesh: &Loaded, p: Position) -> Vec<Sums> {
-    let mut cavity = Cavity::base(&RightRules, mesh, p);
+    let mut cavity = Cavity::base(mesh, p);
     cavity.grow(Answers::SphereTest);
     let is_asked = |&c: &usize| {
         let mut across = (0..4).filter_map(|i| mesh.across(c, i));
         cavity.in_cavity[c] || across.any(|u| cavity.in_cavity[u])
     };
-    let cells = (0..mesh.cells.len()).filter(is_asked);
+    let cells = mesh.cells().into_iter().filter(is_asked);
     cells.map(|c| sums(mesh.positions(c), p)).collect()
 }
 
@@ -65,7 +65,8 @@ fn asked_in_turn(step: &Step, nodes: &[Position]) -> Vec<Sums> {
     let (mut mesh, mut tables) = (step.mesh, step.tables.clone());
     let mut sums = vec![];
     for &p in nodes {
-        sums.extend(asked(&Loaded::load(mesh, &tables.lend()), p));
+        let loaded = Loaded::load(&RightRules, mesh, &tables.lend());
+        sums.extend(asked(&loaded, p));
         mesh = plain::insert(mesh, &mut tables.lend(), p).mesh;
     }
     sums
@@ -152,7 +153,8 @@ fn near_ties_are_in_meshes_of_two_nodes() {
         let mesh = plain::start(tie.sides, &mut tables.lend()).mesh;
         let nodes = tie.nodes[..2].as_flattened();
         let mesh = plain::insert_list(mesh, &mut tables.lend(), nodes).mesh;
-        let mesh = Loaded::load(mesh, &tables.lend());
-        assert!((0..mesh.cells.len()).any(|cell| mesh.positions(cell) == [a, b, c, d]));
+        let mesh = Loaded::load(&RightRules, mesh, &tables.lend());
+        let mut cells = mesh.cells().into_iter();
+        assert!(cells.any(|cell| mesh.positions(cell) == [a, b, c, d]));
     }
 }

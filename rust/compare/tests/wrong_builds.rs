@@ -36,13 +36,20 @@ fn each_is_found_by_tuned() {
     each_is_found(&Tuned);
 }
 
+/// They leave positions that no cell holds: in folded pairs, or where cells are past the used length or the tables.
+const UNHELD: [&str; 4] = [
+    "far-side-left-out",
+    "one-left-off",
+    "used-not-raised",
+    "used-raised-to-the-count",
+];
+
 /// So that a wrong build cannot end the process: each goes on with the tables that it left itself.
 #[test]
 fn each_answers_to_the_end() {
     for build in wrong::ALL {
         if let Err(stop) = run(&Plain::wrong(build), &Plain::wrong(build), 3, 2_000) {
-            // Folded pairs leave positions that no cell holds.
-            assert_eq!(build.name, "far-side-left-out");
+            assert!(UNHELD.contains(&build.name), "{stop}");
             assert!(!stop.is_difference && stop.what.starts_with("answer: 7 to "));
         }
     }

@@ -7,6 +7,8 @@
 //!
 //! Coordinates are whole steps: positions are three unsigned numbers, and a box runs from 0 to its sides, ends included.
 //!
+//! Cells and points have numbers. A point keeps its number for good, a cell until an insertion [replaces](Look) it.
+//!
 //! ```
 //! use gantry::{Mesh, Refusal};
 //!

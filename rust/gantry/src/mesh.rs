@@ -33,6 +33,8 @@ impl Default for Room {
 /// A cell of a mesh.
 #[derive(Clone, Copy, Debug, PartialEq, Eq)]
 pub struct Cell {
+    /// Its number, for as long as it [stands](Mesh::stands).
+    pub number: usize,
     /// The four points.
     pub corners: [usize; 4],
     /// Across face i, which is opposite corner i; nothing at a wall of the box.
@@ -82,14 +84,19 @@ impl Look {
     /// let mut mesh = Mesh::start(4, 4, 4)?;
     /// mesh.insert([1, 2, 3])?;
     /// let look = mesh.look([3, 1, 1])?;
-    /// assert!(look.cells().eq([0, 1, 3, 9, 10, 11]));
+    /// assert!(look.cells().eq([6, 7, 9, 15, 16, 17]));
     /// # Ok::<(), gantry::Refusal>(())
     /// ```
     pub fn cells(&self) -> impl Iterator<Item = usize> + '_ {
-        (0..self.marks.len()).filter(|&cell| self.marks[cell] == 1)
+        (0..self.marks.len()).filter(|&number| self.replaces(number))
     }
 
-    /// A byte for each cell: 1 where the node would replace it, else 0.
+    /// Would it replace the cell of this number? All other cells keep their numbers.
+    pub fn replaces(&self, number: usize) -> bool {
+        self.marks.get(number) == Some(&1)
+    }
+
+    /// A byte for each number below the [used length](Mesh::used): 1 for a cell that the node would replace, else 0.
     pub fn marks(&self) -> &[u8] {
         &self.marks
     }
@@ -110,6 +117,34 @@ impl Look {
 /// assert_ne!(one, other);
 /// other.insert([1, 2, 3])?;
 /// assert_eq!(one, other);
+/// # Ok::<(), gantry::Refusal>(())
+/// ```
+///
+/// # Cell numbers
+///
+/// An insertion replaces the cells of its cavity, which a [look](Mesh::look) names before. Every other cell keeps its number
+/// and its corners; where a replaced cell was across a face, it has a new neighbour. The numbers of replaced cells are freed,
+/// and cells that later insertions make take them, the last freed first, before further numbers. So the numbers of the
+/// cells may have gaps.
+///
+/// ```
+/// use gantry::Mesh;
+///
+/// let mut mesh = Mesh::start(4, 4, 4)?;
+/// // This node replaces all six cells of the box, so numbers 0 to 5 are freed.
+/// mesh.insert([2, 2, 2])?;
+/// assert!(mesh.cells().map(|cell| cell.number).eq(6..18));
+///
+/// let stored: Vec<_> = mesh.cells().collect();
+/// let look = mesh.look([4, 2, 2])?;
+/// assert!(look.cells().eq([6, 16]));
+/// mesh.insert_looked(&look)?;
+/// for cell in &stored {
+///     assert_eq!(mesh.stands(cell), !look.replaces(cell.number));
+/// }
+/// // Numbers 5 down to 2 are taken again.
+/// let numbers = mesh.cells().map(|cell| cell.number);
+/// assert!(numbers.eq([2, 3, 4, 5, 7, 8, 9, 10, 11, 12, 13, 14, 15, 17]));
 /// # Ok::<(), gantry::Refusal>(())
 /// ```
 #[derive(Clone, PartialEq, Eq)]
@@ -208,16 +243,17 @@ impl Mesh {
         self.take(inserted)
     }
 
-    /// Inserts one node by answers handed in: a byte a cell, nonzero where the node counts as inside the cell's sphere.
-    /// Any answers leave a mesh; but of points and spheres nothing is promised then. Refused as [`insert`](Mesh::insert) is,
-    /// and with [`Refusal::Short`] for fewer bytes than cells.
+    /// Inserts one node by answers handed in: a byte for each number below the [used length](Mesh::used), nonzero where the
+    /// node counts as inside the cell's sphere; a freed number's is ignored. Any answers leave a mesh; but of points and
+    /// spheres nothing is promised then. Refused as [`insert`](Mesh::insert) is, and with [`Refusal::Short`] for fewer bytes
+    /// than the used length.
     ///
     /// ```
     /// use gantry::Mesh;
     ///
     /// let mut mesh = Mesh::start(4, 4, 4)?;
     /// mesh.insert([1, 2, 3])?;
-    /// let report = mesh.insert_answers(&[1; 12], [2, 2, 2])?;
+    /// let report = mesh.insert_answers(&vec![1; mesh.used()], [2, 2, 2])?;
     /// assert_eq!((report.made, mesh.cells().len()), (6, 16));
     /// # Ok::<(), gantry::Refusal>(())
     /// ```
@@ -242,7 +278,7 @@ impl Mesh {
     /// # Ok::<(), Refusal>(())
     /// ```
     pub fn look(&mut self, p: Position) -> Result<Look, Refusal> {
-        let mut marks = vec![0; self.record.cells as usize];
+        let mut marks = vec![0; self.used()];
         let (record, mut tables) = self.lend();
         let looked = raw::look(record, &mut tables, &mut marks, p);
         accepted(looked.refusal)?;
@@ -319,21 +355,21 @@ impl Mesh {
     /// # Ok::<(), Refusal>(())
     /// ```
     ///
-    /// An insertion changes the numbers of cells. If it does not replace the located cell, the position is located in that
-    /// cell again, by its corners, though new cells may hold it too:
+    /// If an insertion does not replace the located cell, the position is located in that cell again, though new cells may
+    /// hold it too:
     ///
     /// ```
     /// use gantry::Mesh;
     ///
     /// let mut mesh = Mesh::start(4, 4, 4)?;
     /// mesh.insert([2, 2, 2])?;
-    /// // On a face that cells 10 and 11 share.
+    /// // On a face that cells 16 and 17 share.
     /// let parked = [3, 1, 2];
-    /// assert_eq!(mesh.locate(parked), Ok(11));
-    /// let corners = mesh.cell(11).unwrap().corners;
-    /// mesh.insert([4, 2, 2])?;
-    /// assert_eq!(mesh.locate(parked), Ok(9));
-    /// assert_eq!(mesh.cell(9).unwrap().corners, corners);
+    /// assert_eq!(mesh.locate(parked), Ok(17));
+    /// let look = mesh.look([4, 2, 2])?;
+    /// assert!(look.replaces(16) && !look.replaces(17));
+    /// mesh.insert_looked(&look)?;
+    /// assert_eq!(mesh.locate(parked), Ok(17));
     /// # Ok::<(), gantry::Refusal>(())
     /// ```
     pub fn locate(&mut self, p: Position) -> Result<usize, Refusal> {
@@ -400,39 +436,79 @@ impl Mesh {
         &self.points.as_chunks().0[..self.record.points as usize]
     }
 
-    /// The cells, by number.
+    /// The cells, by rising number; there may be gaps between the numbers.
     ///
     /// ```
     /// let mesh = gantry::Mesh::start(4, 4, 4)?;
+    /// assert!(mesh.cells().map(|cell| cell.number).eq(0..6));
     /// let walls = mesh.cells().flat_map(|cell| cell.neighbours).filter(Option::is_none);
     /// assert_eq!(walls.count(), 12);
     /// # Ok::<(), gantry::Refusal>(())
     /// ```
     pub fn cells(&self) -> impl ExactSizeIterator<Item = Cell> + '_ {
-        (0..self.record.cells as usize).map(|number| self.cell_at(number))
+        let numbers = 0..self.used();
+        Cells {
+            cells: numbers.filter_map(|number| self.cell(number)),
+            left: self.record.cells as usize,
+        }
+    }
+
+    /// The used length: the number of every cell is below it. Marks, and answers handed in, have a byte for each number below
+    /// it.
+    ///
+    /// ```
+    /// let mut mesh = gantry::Mesh::start(4, 4, 4)?;
+    /// assert_eq!((mesh.cells().len(), mesh.used()), (6, 6));
+    /// mesh.insert([2, 2, 2])?;
+    /// assert_eq!((mesh.cells().len(), mesh.used()), (12, 18));
+    /// # Ok::<(), gantry::Refusal>(())
+    /// ```
+    pub fn used(&self) -> usize {
+        self.record.used as usize
     }
 
     /// The cell of this number, if there is one.
     ///
     /// ```
-    /// let mesh = gantry::Mesh::start(4, 4, 4)?;
+    /// let mut mesh = gantry::Mesh::start(4, 4, 4)?;
     /// let cell = mesh.cell(3).unwrap();
-    /// assert_eq!(cell.corners, [0, 6, 4, 7]);
+    /// assert_eq!((cell.number, cell.corners), (3, [0, 6, 4, 7]));
     /// assert_eq!(cell.neighbours, [None, Some(4), Some(2), None]);
     /// assert_eq!(mesh.cell(6), None);
+    /// mesh.insert([2, 2, 2])?;
+    /// assert_eq!(mesh.cell(3), None);
     /// # Ok::<(), gantry::Refusal>(())
     /// ```
     pub fn cell(&self, number: usize) -> Option<Cell> {
-        (number < self.record.cells as usize).then(|| self.cell_at(number))
+        let (corners, _) = self.corners.as_chunks::<4>();
+        let corners = corners[..self.used()].get(number)?;
+        if *corners == raw::FREED {
+            return None;
+        }
+        let (neighbours, _) = self.neighbours.as_chunks::<4>();
+        let across = |u: u16| (u != raw::NO_NEIGHBOUR).then_some(usize::from(u));
+        Some(Cell {
+            number,
+            corners: corners.map(usize::from),
+            neighbours: neighbours[number].map(across),
+        })
     }
 
-    fn cell_at(&self, number: usize) -> Cell {
-        let corners: [u16; 4] = self.corners.as_chunks().0[number];
-        let neighbours: [u16; 4] = self.neighbours.as_chunks().0[number];
-        Cell {
-            corners: corners.map(usize::from),
-            neighbours: neighbours.map(|u| (u != raw::NO_NEIGHBOUR).then_some(usize::from(u))),
-        }
+    /// Is a cell that this mesh had still there, under its number? Its neighbours may be others. No two cells of a mesh have
+    /// the same corners, nor has a later one those of a cell that was replaced.
+    ///
+    /// ```
+    /// let mut mesh = gantry::Mesh::start(4, 4, 4)?;
+    /// mesh.insert([2, 2, 2])?;
+    /// let [replaced, other] = [6, 7].map(|number| mesh.cell(number).unwrap());
+    /// mesh.insert([4, 2, 2])?;
+    /// assert!(!mesh.stands(&replaced));
+    /// assert!(mesh.stands(&other));
+    /// # Ok::<(), gantry::Refusal>(())
+    /// ```
+    pub fn stands(&self, cell: &Cell) -> bool {
+        let found = self.cell(cell.number);
+        found.is_some_and(|found| found.corners == cell.corners)
     }
 
     /// Where the corners of the cell of this number are, if there is one.
@@ -448,6 +524,28 @@ impl Mesh {
         Some(cell.corners.map(|point| self.points()[point]))
     }
 }
+
+/// Cells that are counted beforehand.
+struct Cells<I> {
+    cells: I,
+    left: usize,
+}
+
+impl<I: Iterator<Item = Cell>> Iterator for Cells<I> {
+    type Item = Cell;
+
+    fn next(&mut self) -> Option<Cell> {
+        let cell = self.cells.next()?;
+        self.left -= 1;
+        Some(cell)
+    }
+
+    fn size_hint(&self) -> (usize, Option<usize>) {
+        (self.left, Some(self.left))
+    }
+}
+
+impl<I: Iterator<Item = Cell>> ExactSizeIterator for Cells<I> {}
 
 fn report(numbers: [u32; 4], least: f64) -> Report {
     let [point, before, after, made] = numbers.map(|number| number as usize);

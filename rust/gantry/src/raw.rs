@@ -16,16 +16,25 @@
 //! let inserted = raw::insert(started.mesh, &mut tables, [1, 2, 3]);
 //! assert_eq!((inserted.refusal, inserted.mesh.cells), (0, 12));
 //! assert!(raw::check(inserted.mesh, &mut tables));
+//!
+//! // The cells are the numbers below the used length that are not freed: here the last twelve.
+//! let corners = &corners.as_chunks::<4>().0[..inserted.mesh.used as usize];
+//! let cells = (0..18).filter(|&number| corners[number] != raw::FREED);
+//! assert!(cells.eq(6..18));
 //! ```
 
 #![allow(unsafe_code)]
 
 use crate::Position;
 
-/// `GANTRY_NONE`: no neighbour.
+/// `GANTRY_NONE`: no neighbour, and the end of the chain of freed cell numbers.
 pub const NO_NEIGHBOUR: u16 = 65_535;
 
-/// `gantry_mesh`: the record of sides and counts.
+/// The corners of a freed cell number: four times `GANTRY_NONE`.
+pub const FREED: [u16; 4] = [65_535; 4];
+
+/// `gantry_mesh`: the record of sides, counts, chain and used length. `chain` and `used` are the library's: they are handed
+/// on as a call answers them.
 #[repr(C)]
 #[derive(Clone, Copy, Debug, Default, PartialEq, Eq)]
 pub struct Record {
@@ -39,6 +48,10 @@ pub struct Record {
     pub points: u32,
     /// The cell count.
     pub cells: u32,
+    /// The first of the chain of freed cell numbers; 65,535 where none is freed.
+    pub chain: u32,
+    /// The used length: every cell's number is below it.
+    pub used: u32,
 }
 
 /// `gantry_started`
@@ -154,9 +167,10 @@ pub struct Written {
 pub struct Tables<'a> {
     /// Three entries a point: x, y, z.
     pub points: &'a mut [u32],
-    /// Four entries a cell: the point numbers of its corners.
+    /// Four entries a cell: the point numbers of its corners; [`FREED`] where the number is no cell's.
     pub corners: &'a mut [u16],
-    /// Four entries a cell: neighbour i lies across the face opposite corner i; 65,535 at a wall.
+    /// Four entries a cell: neighbour i lies across the face opposite corner i; 65,535 at a wall. The first of a freed number
+    /// is the next one on the chain, 65,535 at the end; the other three are 65,535.
     pub neighbours: &'a mut [u16],
     /// Three entries a cell, of any content: zero after every call.
     pub work: &'a mut [u16],
@@ -277,7 +291,8 @@ pub fn insert(mesh: Record, tables: &mut Tables, [x, y, z]: Position) -> Inserte
     call!(gantry_insert(mesh; tables; x, y, z))
 }
 
-/// `gantry_insert_answers`: one node, by a byte a cell, nonzero for inside its sphere. Refusals 1 to 8.
+/// `gantry_insert_answers`: one node, by a byte for each cell number below the used length, nonzero for inside its sphere; a
+/// freed number's is ignored. Refusals 1 to 8.
 pub fn insert_answers(
     mesh: Record,
     tables: &mut Tables,
@@ -287,8 +302,8 @@ pub fn insert_answers(
     call!(gantry_insert_answers(mesh; tables; answers.as_ptr(), answers.len(), x, y, z))
 }
 
-/// `gantry_look`: the report of a node's insertion by the sphere test, and a mark for each cell, 1 where the node would
-/// replace it and 0 elsewhere; marks beyond the cells stay. Refusals 1 to 8, then 10.
+/// `gantry_look`: the report of a node's insertion by the sphere test, and a mark for each cell number below the used length,
+/// 1 where the node would replace the cell and 0 elsewhere; marks beyond stay. Refusals 1 to 8, then 10.
 pub fn look(mesh: Record, tables: &mut Tables, marks: &mut [u8], [x, y, z]: Position) -> Looked {
     call!(gantry_look(mesh; tables; marks.as_mut_ptr(), marks.len(), x, y, z))
 }
@@ -351,17 +366,18 @@ pub fn merge(first: &[u8], second: &[u8], out: &mut [u8]) -> Written {
 /// The layouts; `tests/layout.c` asks the same of `gantry.h`.
 const _: () = {
     use std::mem::{offset_of, size_of};
-    assert!(size_of::<Record>() == 20 && offset_of!(Record, cells) == 16);
-    assert!(size_of::<Started>() == 24 && offset_of!(Started, mesh) == 4);
-    assert!(size_of::<Inserted>() == 48 && offset_of!(Inserted, mesh) == 4);
-    assert!(offset_of!(Inserted, point) == 24 && offset_of!(Inserted, before) == 28);
-    assert!(offset_of!(Inserted, after) == 32 && offset_of!(Inserted, made) == 36);
-    assert!(offset_of!(Inserted, least) == 40);
+    assert!(size_of::<Record>() == 28 && offset_of!(Record, cells) == 16);
+    assert!(offset_of!(Record, chain) == 20 && offset_of!(Record, used) == 24);
+    assert!(size_of::<Started>() == 32 && offset_of!(Started, mesh) == 4);
+    assert!(size_of::<Inserted>() == 56 && offset_of!(Inserted, mesh) == 4);
+    assert!(offset_of!(Inserted, point) == 32 && offset_of!(Inserted, before) == 36);
+    assert!(offset_of!(Inserted, after) == 40 && offset_of!(Inserted, made) == 44);
+    assert!(offset_of!(Inserted, least) == 48);
     assert!(size_of::<Looked>() == 32 && offset_of!(Looked, point) == 4);
     assert!(offset_of!(Looked, before) == 8 && offset_of!(Looked, after) == 12);
     assert!(offset_of!(Looked, made) == 16 && offset_of!(Looked, least) == 24);
-    assert!(size_of::<Listed>() == 28 && offset_of!(Listed, mesh) == 4);
-    assert!(offset_of!(Listed, place) == 24);
+    assert!(size_of::<Listed>() == 36 && offset_of!(Listed, mesh) == 4);
+    assert!(offset_of!(Listed, place) == 32);
     assert!(size_of::<Located>() == 8 && offset_of!(Located, cell) == 4);
     assert!(size_of::<Sphere>() == 16 && offset_of!(Sphere, answer) == 1);
     assert!(offset_of!(Sphere, t) == 8);

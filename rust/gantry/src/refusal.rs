@@ -46,7 +46,7 @@ macro_rules! refusals {
 }
 
 refusals! {
-    Short = 1, "short", "room for fewer than 8 points or 6 cells, or fewer answer bytes than cells";
+    Short = 1, "short", "room for fewer than 8 points or 6 cells, or fewer answer bytes than the used length";
     Box = 2, "box", "a side is 0 or above 131,072";
     NoMesh = 3, "no mesh", "record and tables fail the mesh check",
         "The tables of a [`Mesh`](crate::Mesh) never do.";

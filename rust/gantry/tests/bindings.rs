@@ -1,19 +1,13 @@
 //! The bindings over the archive: what a caller of the C interface would see, in Rust's words.
 
+mod common;
+
+use common::lattice;
 use gantry::{merge, raw, read_nodes, sphere_test, volume6};
 use gantry::{
     Mesh, NodeFile, Position, Refusal, Room, SphereAnswer, Stopped, CELL_LIMIT, NODE_LIMIT,
     POINT_LIMIT,
 };
-
-fn lattice(parts: u32, spacing: u32) -> Vec<Position> {
-    let last = parts - 1;
-    (0..parts * parts * parts)
-        .map(|k| [k % parts, k / parts % parts, k / (parts * parts)])
-        .filter(|p| p.iter().any(|&n| n != 0 && n != last))
-        .map(|p| p.map(|n| n * spacing))
-        .collect()
-}
 
 #[test]
 fn numbers_and_names_are_the_table_s() {
@@ -52,16 +46,17 @@ fn a_lattice_with_every_cell_counted() {
     assert_eq!(mesh.insert_list(&nodes), Ok(117));
     assert_eq!(mesh.points()[8..], nodes);
     assert!(mesh.check());
-    let volumes = (0..mesh.cells().len()).map(|number| {
-        let corners = mesh.corner_positions(number).unwrap();
+    let volumes = mesh.cells().map(|cell| {
+        let corners = mesh.corner_positions(cell.number).unwrap();
         volume6(corners.map(|q| q.map(|n| n as i32))).unwrap()
     });
-    assert!(volumes.clone().all(|volume| volume > 0));
-    assert_eq!(volumes.sum::<i64>(), 6 * 12 * 12 * 12);
-    for (number, cell) in mesh.cells().enumerate() {
+    let volumes = Vec::from_iter(volumes);
+    assert!(volumes.iter().all(|&volume| volume > 0));
+    assert_eq!(volumes.iter().sum::<i64>(), 6 * 12 * 12 * 12);
+    for cell in mesh.cells() {
         for across in cell.neighbours.into_iter().flatten() {
             let back = mesh.cell(across).unwrap().neighbours;
-            assert!(back.contains(&Some(number)));
+            assert!(back.contains(&Some(cell.number)));
         }
     }
     let read = read_nodes(&mesh.write_nodes().unwrap()).unwrap();
@@ -91,24 +86,20 @@ fn refusals_leave_the_mesh() {
     let mut mesh = Mesh::start(4, 4, 4).unwrap();
     mesh.insert([1, 2, 3]).unwrap();
     let before = mesh.clone();
-    let cells = before.cells().len();
     assert_eq!(mesh.insert([4, 4, 4]), Err(Refusal::Taken));
     assert_eq!(mesh.insert([0, 0, u32::MAX]), Err(Refusal::Outside));
-    let short = vec![1; cells - 1];
+    // Enough for the cells, but not for all numbers below the used length.
+    let short = vec![1; mesh.used() - 1];
+    assert!(short.len() > mesh.cells().len());
     assert_eq!(mesh.insert_answers(&short, [2, 2, 2]), Err(Refusal::Short));
     assert_eq!(mesh.insert_list(&[]), Ok(0));
     assert_eq!(mesh, before);
     assert_eq!(format!("{mesh:?}"), format!("{before:?}"));
 }
 
-/// The four corners of each cell, sorted.
-fn corner_sets(mesh: &Mesh) -> Vec<[usize; 4]> {
-    let sorted = |cell: gantry::Cell| {
-        let mut corners = cell.corners;
-        corners.sort();
-        corners
-    };
-    mesh.cells().map(sorted).collect()
+fn sorted(mut corners: [usize; 4]) -> [usize; 4] {
+    corners.sort();
+    corners
 }
 
 #[test]
@@ -125,10 +116,10 @@ fn what_a_look_says_comes_true() {
         assert_eq!(plainly.insert(p), Ok(look.report()));
         assert_eq!(mesh.insert_looked(&look), Ok(look.report()));
         assert_eq!(mesh, plainly);
-        let after = corner_sets(&mesh);
-        for (number, corners) in corner_sets(&before).iter().enumerate() {
-            let is_marked = look.cells().any(|cell| cell == number);
-            assert_eq!(after.contains(corners), !is_marked);
+        let after: Vec<_> = mesh.cells().map(|cell| sorted(cell.corners)).collect();
+        for cell in before.cells() {
+            let is_marked = look.cells().any(|number| number == cell.number);
+            assert_eq!(after.contains(&sorted(cell.corners)), !is_marked);
         }
     }
 }
@@ -168,36 +159,6 @@ fn looks_that_are_refused() {
     )
     .unwrap();
     assert_eq!(tight.look([1, 2, 3]), Err(Refusal::CellsFull));
-}
-
-/// Only the raw calls are lent marks.
-#[test]
-fn marks_beyond_the_cells() {
-    let (mut points, mut corners, mut neighbours) = ([0; 27], [0; 80], [0; 80]);
-    let mut work = [0; 60];
-    let mut tables = raw::Tables {
-        points: &mut points,
-        corners: &mut corners,
-        neighbours: &mut neighbours,
-        work: &mut work,
-    };
-    let (p, mut marks) = ([1, 2, 3], [7; 9]);
-    let mesh = raw::start([4; 3], &mut tables).mesh;
-    let short = raw::look(mesh, &mut tables, &mut marks[..5], p);
-    assert_eq!((short.refusal, short.after, marks), (10, 0, [7; 9]));
-    let looked = raw::look(mesh, &mut tables, &mut marks, p);
-    assert_eq!((looked.refusal, looked.after), (0, 6));
-    assert_eq!(marks, [1, 1, 1, 1, 1, 1, 7, 7, 7]);
-    let refused = |tables: &mut raw::Tables, marks: &[u8]| {
-        let answer = raw::insert_marked(mesh, tables, marks, p);
-        assert_eq!(answer.mesh, mesh);
-        answer.refusal
-    };
-    assert_eq!(refused(&mut tables, &marks[..5]), 14);
-    assert_eq!(refused(&mut tables, &[1, 1, 1, 1, 1, 2]), 14);
-    assert_eq!(refused(&mut tables, &[1, 1, 1, 1, 1, 0]), 14);
-    let inserted = raw::insert_marked(mesh, &mut tables, &marks, p);
-    assert_eq!((inserted.refusal, inserted.mesh.cells), (0, 12));
 }
 
 #[test]

@@ -9,23 +9,25 @@
 #define AT(type, field, place) static_assert(offsetof(type, field) == (place), #type "." #field)
 #define SIZE(type, bytes) static_assert(sizeof(type) == (bytes), #type)
 
-SIZE(gantry_mesh, 20);
+SIZE(gantry_mesh, 28);
 AT(gantry_mesh, x, 0);
 AT(gantry_mesh, y, 4);
 AT(gantry_mesh, z, 8);
 AT(gantry_mesh, points, 12);
 AT(gantry_mesh, cells, 16);
-SIZE(gantry_started, 24);
+AT(gantry_mesh, chain, 20);
+AT(gantry_mesh, used, 24);
+SIZE(gantry_started, 32);
 AT(gantry_started, refusal, 0);
 AT(gantry_started, mesh, 4);
-SIZE(gantry_inserted, 48);
+SIZE(gantry_inserted, 56);
 AT(gantry_inserted, refusal, 0);
 AT(gantry_inserted, mesh, 4);
-AT(gantry_inserted, point, 24);
-AT(gantry_inserted, before, 28);
-AT(gantry_inserted, after, 32);
-AT(gantry_inserted, made, 36);
-AT(gantry_inserted, least, 40);
+AT(gantry_inserted, point, 32);
+AT(gantry_inserted, before, 36);
+AT(gantry_inserted, after, 40);
+AT(gantry_inserted, made, 44);
+AT(gantry_inserted, least, 48);
 SIZE(gantry_looked, 32);
 AT(gantry_looked, refusal, 0);
 AT(gantry_looked, point, 4);
@@ -33,10 +35,10 @@ AT(gantry_looked, before, 8);
 AT(gantry_looked, after, 12);
 AT(gantry_looked, made, 16);
 AT(gantry_looked, least, 24);
-SIZE(gantry_listed, 28);
+SIZE(gantry_listed, 36);
 AT(gantry_listed, refusal, 0);
 AT(gantry_listed, mesh, 4);
-AT(gantry_listed, place, 24);
+AT(gantry_listed, place, 32);
 SIZE(gantry_located, 8);
 AT(gantry_located, refusal, 0);
 AT(gantry_located, cell, 4);
@@ -54,6 +56,7 @@ SIZE(gantry_written, 8);
 AT(gantry_written, refusal, 0);
 AT(gantry_written, bytes, 4);
 
+static_assert(GANTRY_NONE == 65535, "GANTRY_NONE");
 static_assert(GANTRY_SPHERE_INSIDE == 1, "GANTRY_SPHERE_INSIDE");
 static_assert(GANTRY_SPHERE_OUTSIDE == 2, "GANTRY_SPHERE_OUTSIDE");
 

@@ -1,7 +1,7 @@
 //! The record, the lent tables and the answers, laid out as in `gantry.h`.
 //! A field that a refusal leaves without meaning is 0.
 
-/// No neighbour.
+/// No neighbour; the end of the chain; and each corner of a freed entry.
 pub const NONE: u16 = 65_535;
 pub const SIDE_LIMIT: u32 = 131_072;
 pub const POINT_LIMIT: usize = 1_024;
@@ -11,7 +11,7 @@ pub const NODE_LIMIT: usize = POINT_LIMIT - 8;
 
 pub type Position = [u32; 3];
 
-/// The record: sides, point count and cell count.
+/// The record: sides, counts, and where there is place for new cells.
 #[repr(C)]
 #[derive(Clone, Copy, Debug, Default, PartialEq, Eq)]
 pub struct Mesh {
@@ -20,6 +20,10 @@ pub struct Mesh {
     pub z: u32,
     pub points: u32,
     pub cells: u32,
+    /// The first of the freed numbers, which form a chain; `NONE` if it is empty.
+    pub chain: u32,
+    /// Entries below it are cells or freed; those from it on have not been used.
+    pub used: u32,
 }
 
 impl Mesh {

@@ -1,15 +1,16 @@
 //! Base, cavity (document 01: spot) and its correction.
 
+use std::collections::BTreeSet;
+
 use crate::calls::Position;
 use crate::geometry::{float_sum, is_inside};
 use crate::loaded::{others, Loaded};
-use crate::rules::Rules;
 
 /// Where the insertion's yes or no comes from.
 #[derive(Clone, Copy)]
 pub enum Answers<'a> {
     SphereTest,
-    /// One byte a cell; nonzero is yes.
+    /// One byte an entry; nonzero is yes.
     Given(&'a [u8]),
 }
 
@@ -34,19 +35,18 @@ pub struct Candidate {
 }
 
 pub struct Cavity<'a> {
-    pub rules: &'a dyn Rules,
-    pub mesh: &'a Loaded,
+    pub mesh: &'a Loaded<'a>,
     pub p: Position,
+    /// One an entry.
     pub in_base: Vec<bool>,
     pub in_cavity: Vec<bool>,
 }
 
 impl<'a> Cavity<'a> {
     /// "Base: every cell that holds P."
-    pub fn base(rules: &'a dyn Rules, mesh: &'a Loaded, p: Position) -> Cavity<'a> {
-        let in_base: Vec<bool> = (0..mesh.cells.len()).map(|c| mesh.holds(c, p)).collect();
+    pub fn base(mesh: &'a Loaded, p: Position) -> Cavity<'a> {
+        let in_base: Vec<bool> = (0..mesh.entries.len()).map(|c| mesh.holds(c, p)).collect();
         Cavity {
-            rules,
             mesh,
             p,
             in_cavity: in_base.clone(),
@@ -78,8 +78,8 @@ impl<'a> Cavity<'a> {
 
     fn is_yes(&self, c: usize, answers: Answers) -> bool {
         match answers {
-            Answers::SphereTest => is_inside(self.rules, self.mesh.positions(c), self.p),
-            Answers::Given(bytes) => bytes[c] != 0,
+            Answers::SphereTest => is_inside(self.mesh.rules, self.mesh.positions(c), self.p),
+            Answers::Given(bytes) => bytes.get(c).is_some_and(|&byte| byte != 0),
         }
     }
 
@@ -101,7 +101,7 @@ impl<'a> Cavity<'a> {
             return Face::Inner;
         }
         let side = self.mesh.side(c, i, self.p);
-        self.rules.outer_face(side, across.is_some())
+        self.mesh.rules.outer_face(side, across.is_some())
     }
 
     /// The faces that make a cell, by cell number, then face number.
@@ -109,7 +109,7 @@ impl<'a> Cavity<'a> {
         self.cells()
             .iter()
             .flat_map(|&c| (0..4).map(move |i| (c, i)))
-            .filter(|&(c, i)| self.rules.makes_cell(self.face(c, i)))
+            .filter(|&(c, i)| self.mesh.rules.makes_cell(self.face(c, i)))
             .collect()
     }
 
@@ -121,29 +121,28 @@ impl<'a> Cavity<'a> {
 
     pub fn marked(&self) -> Vec<usize> {
         let kept_corners = self.kept_corners();
+        let is_marked = |c| self.mesh.rules.is_marked(self.candidate(c, &kept_corners));
         let mut marked = self.cells();
-        marked.retain(|&c| self.rules.is_marked(self.candidate(c, &kept_corners)));
+        marked.retain(|&c| is_marked(c));
         marked
     }
 
-    fn candidate(&self, c: usize, kept_corners: &[bool]) -> Candidate {
-        let corners = self.mesh.cells[c].corners;
+    fn candidate(&self, c: usize, kept_corners: &BTreeSet<u16>) -> Candidate {
+        let corners = self.mesh.entries[c].corners;
         Candidate {
             in_base: self.in_base[c],
             has_hidden_face: (0..4).any(|i| self.face(c, i) == Face::Hidden),
-            has_lost_corner: corners.iter().any(|&p| !kept_corners[p as usize]),
+            has_lost_corner: corners.iter().any(|p| !kept_corners.contains(p)),
         }
     }
 
-    /// For each point: is it on a visible outer face of the whole cavity?
-    fn kept_corners(&self) -> Vec<bool> {
-        let mut kept = vec![false; self.mesh.points.len()];
+    /// The points that are on a visible outer face of the whole cavity.
+    fn kept_corners(&self) -> BTreeSet<u16> {
+        let mut kept = BTreeSet::new();
         for c in self.cells() {
             for i in 0..4 {
-                if self.rules.keeps_corners(self.face(c, i)) {
-                    for j in others(i) {
-                        kept[self.mesh.cells[c].corners[j] as usize] = true;
-                    }
+                if self.mesh.rules.keeps_corners(self.face(c, i)) {
+                    kept.extend(others(i).map(|j| self.mesh.entries[c].corners[j]));
                 }
             }
         }

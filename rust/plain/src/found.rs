@@ -3,7 +3,6 @@
 use crate::calls::{in_box, Looked, Position, Tables};
 use crate::cavity::{Answers, Cavity};
 use crate::loaded::Loaded;
-use crate::rules::Rules;
 
 /// A node's corrected cavity, and what else its report and marks need.
 pub struct Found<'a> {
@@ -16,13 +15,12 @@ pub struct Found<'a> {
 
 /// Tests 4 to 7, and the cavity, in tables that pass the mesh check.
 pub fn find<'a>(
-    rules: &'a dyn Rules,
     mesh: &'a Loaded,
     tables: &Tables,
     answers: Answers,
     p: Position,
 ) -> Result<Found<'a>, u8> {
-    if !in_box(mesh.sides, p) {
+    if !in_box(mesh.record.sides(), p) {
         return Err(4);
     }
     if mesh.points.contains(&p) {
@@ -31,14 +29,14 @@ pub fn find<'a>(
     if mesh.points.len() == tables.point_capacity() {
         return Err(6);
     }
-    let mut cavity = Cavity::base(rules, mesh, p);
+    let mut cavity = Cavity::base(mesh, p);
     if cavity.cells().is_empty() {
         return Err(7);
     }
-    cavity.grow(answers);
+    mesh.rules.grow(&mut cavity, answers);
     let grown = cavity.in_cavity.clone();
     let least = cavity.least(answers);
-    rules.correct(&mut cavity);
+    mesh.rules.correct(&mut cavity);
     Ok(Found {
         made: cavity.starred_faces().len(),
         cavity,
@@ -50,18 +48,23 @@ pub fn find<'a>(
 impl Found<'_> {
     /// Test 8: "old count plus new cells exceeds cell capacity".
     pub fn is_too_large(&self, tables: &Tables) -> bool {
-        self.cavity.mesh.cells.len() + self.made > tables.cell_capacity()
+        self.cavity.mesh.record.cells as usize + self.made > tables.cell_capacity()
     }
 
-    /// Which cells a look marks.
+    /// Which entries a look marks.
     pub fn replaced(&self) -> Vec<bool> {
-        self.cavity.rules.replaced(&self.grown, &self.cavity)
+        self.cavity.mesh.rules.replaced(&self.grown, &self.cavity)
+    }
+
+    /// The node's number.
+    pub fn point(&self) -> u16 {
+        self.cavity.mesh.points.len() as u16
     }
 
     pub fn report(&self) -> Looked {
         Looked {
             refusal: 0,
-            point: self.cavity.mesh.points.len() as u32,
+            point: self.point().into(),
             before: self.grown.iter().filter(|&&yes| yes).count() as u32,
             after: self.cavity.cells().len() as u32,
             made: self.made as u32,

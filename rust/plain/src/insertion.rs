@@ -4,9 +4,8 @@ use crate::calls::{Inserted, Listed, Mesh, Position, Tables};
 pub use crate::cavity::Answers;
 use crate::check::mesh_refusal;
 use crate::found::{find, Found};
-use crate::loaded::{Cell, Loaded};
+use crate::loaded::Loaded;
 use crate::rules::{RightRules, Rules};
-use crate::star::star;
 
 pub fn insert(mesh: Mesh, tables: &mut Tables, p: Position) -> Inserted {
     insert_with(&RightRules, mesh, tables, Answers::SphereTest, p)
@@ -117,9 +116,9 @@ fn insert_in_mesh(
     marks: Option<&[u8]>,
     p: Position,
 ) -> Result<Inserted, u8> {
-    let loaded = Loaded::load(mesh, tables);
-    let found = find(rules, &loaded, tables, answers, p)?;
-    let are_other = marks.is_some_and(|marks| are_other(rules, &found, marks));
+    let loaded = Loaded::load(rules, mesh, tables);
+    let found = find(&loaded, tables, answers, p)?;
+    let are_other = marks.is_some_and(|marks| are_other(&found, marks));
     match rules.last_refusal(found.is_too_large(tables), are_other) {
         0 => Ok(put_in(mesh, tables, &found)),
         refusal => Err(refusal),
@@ -127,35 +126,24 @@ fn insert_in_mesh(
 }
 
 /// "If the marks differ or are too few."
-fn are_other(rules: &dyn Rules, found: &Found, marks: &[u8]) -> bool {
+fn are_other(found: &Found, marks: &[u8]) -> bool {
     let replaced = found.replaced();
-    marks.len() < replaced.len()
-        || replaced
-            .iter()
-            .zip(marks)
-            .any(|(&is_replaced, &mark)| !rules.is_same_mark(mark, is_replaced))
+    let mesh = found.cavity.mesh;
+    let is_same = |c: usize| {
+        mesh.rules
+            .is_same_mark(marks[c], replaced[c], mesh.is_freed(c))
+    };
+    marks.len() < replaced.len() || !(0..replaced.len()).all(is_same)
 }
 
-/// The star in the tables, and the answer.
+/// The node and its star in the tables, and the answer.
 fn put_in(mesh: Mesh, tables: &mut Tables, found: &Found) -> Inserted {
-    let cells = star(&found.cavity, mesh.points as u16);
-    let cleared_to = mesh.cells as usize + found.made;
-    store(mesh, tables, found.cavity.p, &cells, cleared_to);
-    found.report().with(Mesh {
-        points: mesh.points + 1,
-        cells: cells.len() as u32,
-        ..mesh
-    })
-}
-
-/// "Entries from the new count up to old count plus new cells are 0; those beyond are unchanged."
-fn store(mesh: Mesh, tables: &mut Tables, p: Position, cells: &[Cell], cleared_to: usize) {
     let place = 3 * mesh.points as usize;
-    tables.points[place..place + 3].copy_from_slice(&p);
-    tables.corners[4 * cells.len()..4 * cleared_to].fill(0);
-    tables.neighbours[4 * cells.len()..4 * cleared_to].fill(0);
-    for (c, cell) in cells.iter().enumerate() {
-        tables.corners[4 * c..4 * c + 4].copy_from_slice(&cell.corners);
-        tables.neighbours[4 * c..4 * c + 4].copy_from_slice(&cell.neighbours);
-    }
+    tables.points[place..place + 3].copy_from_slice(&found.cavity.p);
+    let mesh = Mesh {
+        points: mesh.points + 1,
+        ..mesh
+    };
+    let rules = found.cavity.mesh.rules;
+    found.report().with(rules.put_in(mesh, tables, found))
 }

@@ -1,6 +1,7 @@
 //! An obvious build of document 01, with the requests of document 02 that have landed: each call loads the lent tables into
 //! lists, works on those, and stores the result. Nothing here is made fast; it is written to be compared with. A call named
-//! `_with` takes the rules that a wrong build overrides; the others go by the right ones.
+//! `_with` takes the rules that a wrong build overrides; the others go by the right ones. `packed` are those of the layout that
+//! document 02 §11 replaces, which it compares with the one that stands.
 
 pub mod calls;
 pub mod cavity;
@@ -13,6 +14,8 @@ pub mod loaded;
 pub mod look;
 pub mod merge;
 pub mod nodefile;
+pub mod numbers;
+pub mod packed;
 pub mod random;
 pub mod rules;
 pub mod star;
@@ -52,6 +55,8 @@ fn started(sides: Position, tables: &mut Tables) -> Started {
         z: sides[2],
         points: 8,
         cells: 6,
+        chain: NONE.into(),
+        used: 6,
     };
     for k in 0..8 {
         tables.points[3 * k..3 * k + 3].copy_from_slice(&loaded::box_corner(sides, k));
@@ -84,8 +89,8 @@ fn located(rules: &dyn Rules, mesh: Mesh, tables: &Tables, p: Position) -> Locat
     if !in_box(mesh.sides(), p) {
         return refused(4);
     }
-    let loaded = Loaded::load(mesh, tables);
-    let order = |&c: &usize| rules.order(c, loaded.cells[c].corners);
+    let loaded = Loaded::load(rules, mesh, tables);
+    let order = |&c: &usize| rules.order(c, loaded.entries[c].corners);
     match loaded.holding(p).into_iter().min_by_key(order) {
         Some(c) => Located {
             refusal: 0,

@@ -27,7 +27,8 @@ pub fn listing(file: &[u8]) -> String {
     text
 }
 
-/// The box with its counts, then a line a cell: number, corners, neighbours, a dash for none.
+/// The box with its counts, then a line a cell: number, corners, neighbours, a dash for none. "Listings leave freed entries out
+/// and go by rising number."
 pub fn cells(mesh: Mesh, tables: &Owned) -> String {
     let Mesh {
         x,
@@ -35,15 +36,23 @@ pub fn cells(mesh: Mesh, tables: &Owned) -> String {
         z,
         points,
         cells,
+        used,
+        ..
     } = mesh;
     let mut text = format!("box {x} {y} {z} points {points} cells {cells}\n");
-    for c in 0..cells as usize {
+    let (corners, _) = tables.corners.as_chunks();
+    let (neighbours, _) = tables.neighbours.as_chunks::<4>();
+    let entries = corners.iter().zip(neighbours).enumerate();
+    for (c, (corners, neighbours)) in entries.take(used as usize) {
+        if *corners == [NONE; 4] {
+            continue;
+        }
         let _ = write!(text, "{c}");
-        for &corner in &tables.corners[4 * c..4 * c + 4] {
+        for corner in corners {
             let _ = write!(text, " {corner}");
         }
-        for &neighbour in &tables.neighbours[4 * c..4 * c + 4] {
-            let _ = match neighbour {
+        for neighbour in neighbours {
+            let _ = match *neighbour {
                 NONE => write!(text, " -"),
                 number => write!(text, " {number}"),
             };

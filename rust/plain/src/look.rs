@@ -27,7 +27,7 @@ pub fn look_with(
     answer.unwrap_or_else(Looked::refused)
 }
 
-/// "Refused where the insertion would be, and with 10 if the marks have fewer bytes than there are cells."
+/// "Refused where the insertion would be", and with 10 if the marks have fewer bytes than the used length.
 fn look_in_mesh(
     rules: &dyn Rules,
     mesh: Mesh,
@@ -35,14 +35,15 @@ fn look_in_mesh(
     marks: &mut [u8],
     p: Position,
 ) -> Result<Looked, u8> {
-    let loaded = Loaded::load(mesh, tables);
-    let found = find(rules, &loaded, tables, Answers::SphereTest, p)?;
+    let loaded = Loaded::load(rules, mesh, tables);
+    let found = find(&loaded, tables, Answers::SphereTest, p)?;
     if found.is_too_large(tables) {
         return Err(8);
     }
-    if marks.len() < loaded.cells.len() {
+    let replaced = found.replaced();
+    if marks.len() < replaced.len() {
         return Err(10);
     }
-    rules.write_marks(&found.replaced(), marks);
+    rules.write_marks(&loaded, &replaced, marks);
     Ok(found.report())
 }

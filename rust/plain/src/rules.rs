@@ -1,13 +1,27 @@
 //! The rules of documents 01 and 02 that a build is known, or likely, to get wrong. They are right as they stand here; a
 //! wrong build gives one of them another body.
 
-use crate::calls::Position;
-use crate::cavity::{Candidate, Cavity, Face};
+use crate::calls::{Mesh, Position, Tables, NONE};
+use crate::cavity::{Answers, Candidate, Cavity, Face};
+use crate::found::Found;
+use crate::loaded::{Chain, End, Loaded};
+use crate::numbers::{self, Free};
 
 pub trait Rules {
     /// "Inside means E above 0, outside means the rest": T, the same sum in floats, has no part in it.
     fn is_inside(&self, e: i128, _t: f64) -> bool {
         e > 0
+    }
+
+    /// A freed entry is no cell, and holds no position: its four corners are one, so that its four sides would be 0.
+    fn may_hold(&self, is_freed: bool) -> bool {
+        !is_freed
+    }
+
+    /// "The base, and again and again each neighbour of a spot cell whose answer is yes": a freed entry is no neighbour, so that
+    /// its "answer is ignored".
+    fn grow(&self, cavity: &mut Cavity, answers: Answers) {
+        cavity.grow(answers);
     }
 
     /// "Flat if it has no neighbour and P lies in its plane; seen if P lies strictly on its cell's side": `side` is P's,
@@ -50,20 +64,46 @@ pub trait Rules {
         face == Face::Visible
     }
 
-    /// Of a look: it "marks each cell of the corrected spot". `grown` is the spot before its correction.
+    /// What becomes of the tables and of the record, whose point count is that with the node already: "a cell outside the spot
+    /// keeps its number".
+    fn put_in(&self, mesh: Mesh, tables: &mut Tables, found: &Found) -> Mesh {
+        numbers::put_in(mesh, tables, found)
+    }
+
+    /// The numbers of so many new cells, which "take the chain, then the end of the table; the spot's own numbers join the chain
+    /// afterwards one by one, rising". The cavity's are rising.
+    fn allot(&self, free: &mut Free, cavity: &[usize], made: usize) -> Vec<usize> {
+        let new = free.take(made);
+        free.join(cavity);
+        new
+    }
+
+    /// The used length after an insertion that leaves so many cells: up to where "the end of the table" has come.
+    fn used_after(&self, _before: usize, end: usize, _cells: usize) -> usize {
+        end
+    }
+
+    /// "Bytes are counted against the used length": so many answers must be handed in.
+    fn answers_wanted(&self, mesh: Mesh) -> usize {
+        mesh.used as usize
+    }
+
+    /// Of a look: it "marks each cell of the corrected spot". A mark an entry "up to the used length". `grown` is the cavity before
+    /// its correction.
     fn replaced(&self, _grown: &[bool], corrected: &Cavity) -> Vec<bool> {
         corrected.in_cavity.clone()
     }
 
-    /// "With byte 1, all other cells with 0, and changes nothing else": no mark beyond the cells either.
-    fn write_marks(&self, replaced: &[bool], marks: &mut [u8]) {
+    /// "With byte 1, all other cells with 0", of a freed entry too "its mark is 0", "and changes nothing else": no mark beyond the
+    /// entries either.
+    fn write_marks(&self, _mesh: &Loaded, replaced: &[bool], marks: &mut [u8]) {
         for (mark, &is_replaced) in marks.iter_mut().zip(replaced) {
             *mark = is_replaced.into();
         }
     }
 
     /// Is a mark that is handed in the one that a look would write?
-    fn is_same_mark(&self, mark: u8, is_replaced: bool) -> bool {
+    fn is_same_mark(&self, mark: u8, is_replaced: bool, _is_freed: bool) -> bool {
         mark == is_replaced.into()
     }
 
@@ -74,6 +114,31 @@ pub trait Rules {
             (false, true) => 14,
             (false, false) => 0,
         }
+    }
+
+    /// "A freed entry has four corners of 65,535": with fewer it is a cell with a wrong corner.
+    fn is_freed(&self, corners: [u16; 4]) -> bool {
+        corners == [NONE; 4]
+    }
+
+    /// Of the mesh check: a freed entry's "other three" neighbours "are 65,535".
+    fn are_freed_neighbours(&self, others: [u16; 3]) -> bool {
+        others == [NONE; 3]
+    }
+
+    /// Of the mesh check, with so many entries freed: "every freed entry on it, each one time, and nothing else".
+    fn is_whole(&self, chain: &Chain, freed: usize) -> bool {
+        chain.end == End::Last && chain.numbers.len() == freed
+    }
+
+    /// Of the mesh check: "the cell count must be the number of entries below the used length that aren't freed".
+    fn is_cell_count(&self, count: usize, cells: usize) -> bool {
+        count == cells
+    }
+
+    /// Of the mesh check: it "uses" the used length, "not the cell count, to bound neighbour numbers".
+    fn neighbour_limit(&self, mesh: Mesh) -> usize {
+        mesh.used as usize
     }
 
     /// Of the mesh check: the neighbour's "fourth corner lies strictly on the other side", where `side` is below 0.

@@ -49,12 +49,12 @@ fn node(random: &mut Random, kind: Nodes, sides: Position) -> Position {
 
 /// By the sphere test, or all yes, all no, or random bytes.
 fn insert_somehow(kit: &mut Kit, random: &mut Random, p: Position) -> plain::Inserted {
-    let cells = kit.mesh.cells as usize;
+    let used = kit.mesh.used as usize;
     match random.below(4) {
-        0 => kit.insert_answers(&vec![1; cells], p),
-        1 => kit.insert_answers(&vec![0; cells], p),
+        0 => kit.insert_answers(&vec![1; used], p),
+        1 => kit.insert_answers(&vec![0; used], p),
         2 => {
-            let bytes: Vec<u8> = (0..cells).map(|_| random.below(2) as u8).collect();
+            let bytes: Vec<u8> = (0..used).map(|_| random.below(2) as u8).collect();
             kit.insert_answers(&bytes, p)
         }
         _ => kit.insert(p),
@@ -78,6 +78,8 @@ fn history(seed: u64, kind: Nodes) {
             assert!(kit.has_corner(answer.point));
             assert!((0..kit.mesh.points).all(|point| kit.has_corner(point)));
             assert!(answer.after <= answer.before);
+            let used = before.mesh.used.max(before.mesh.cells + answer.made);
+            assert_eq!(kit.mesh.used, used);
         } else {
             assert!([5, 6, 8].contains(&answer.refusal), "seed {seed} {kind:?}");
             assert_eq!(kit, before);
@@ -111,18 +113,20 @@ fn damage(kit: &mut Kit, random: &mut Random) {
     let number = random.bits() as u32;
     let number = random.pick(&[0, 1, 5, 8, 9, 16, 17, 65_535, number]);
     let entry = random.pick(&[0, 1, 6, 7, 65_535, number as u16]);
-    let Mesh { points, cells, .. } = kit.mesh;
+    let Mesh { points, used, .. } = kit.mesh;
     let in_points = random.index(3 * points as usize);
-    let in_cells = random.index(4 * cells as usize);
-    match random.below(9) {
+    let in_cells = random.index(4 * used as usize);
+    match random.below(11) {
         0 => kit.mesh.x = number,
         1 => kit.mesh.points = number,
         2 => kit.mesh.cells = number,
-        3 => kit.tables.points[in_points] = number,
-        4 => kit.tables.corners[in_cells] = entry,
-        5 => kit.tables.neighbours[in_cells] = entry,
-        6 => kit.tables.corners.truncate(in_cells),
-        7 => kit.tables.neighbours.truncate(in_cells),
+        3 => kit.mesh.chain = number,
+        4 => kit.mesh.used = number,
+        5 => kit.tables.points[in_points] = number,
+        6 => kit.tables.corners[in_cells] = entry,
+        7 => kit.tables.neighbours[in_cells] = entry,
+        8 => kit.tables.corners.truncate(in_cells),
+        9 => kit.tables.neighbours.truncate(in_cells),
         _ => kit.tables.work.truncate(in_cells),
     }
 }
@@ -164,9 +168,9 @@ fn damaged_tables_are_answered() {
         for _ in 0..100 {
             let mut damaged = kit.clone();
             for _ in 0..=random.below(2) {
-                if damaged.mesh.points < 1_000 && damaged.mesh.cells < 1_000 {
-                    let fits = damaged.tables.corners.len() >= 4 * damaged.mesh.cells as usize
-                        && damaged.tables.neighbours.len() >= 4 * damaged.mesh.cells as usize
+                if damaged.mesh.points < 1_000 && damaged.mesh.used < 1_000 {
+                    let fits = damaged.tables.corners.len() >= 4 * damaged.mesh.used as usize
+                        && damaged.tables.neighbours.len() >= 4 * damaged.mesh.used as usize
                         && damaged.tables.points.len() >= 3 * damaged.mesh.points as usize;
                     if fits {
                         damage(&mut damaged, &mut random);

@@ -10,7 +10,7 @@ fn a_note_up_to_the_limit() {
     longest.extend(&file);
     for input in [&file, &longest] {
         let text = listing(input);
-        assert!(text.starts_with("box 4 4 4 points 9 cells 12\n0 8 1 3 7 - "));
+        assert!(text.starts_with("box 4 4 4 points 9 cells 12\n6 8 1 3 7 - "));
         assert!(text.ends_with("\nstopped 1 5\n"));
     }
     longest.insert(0, b'n');

@@ -4,7 +4,6 @@
 mod common;
 
 use common::Kit;
-use plain::loaded::Loaded;
 use plain::Position;
 
 /// The located cell, and its corners sorted upward.
@@ -17,7 +16,7 @@ fn located(kit: &mut Kit, p: Position) -> (u32, [u16; 4]) {
 }
 
 fn holding(kit: &mut Kit, p: Position) -> Vec<usize> {
-    Loaded::load(kit.mesh, &kit.tables.lend()).holding(p)
+    kit.loaded().holding(p)
 }
 
 /// In the order of their corners the six cells are 0, 5, 1, 2, 4, 3.
@@ -43,12 +42,12 @@ fn faces_and_edges_of_the_started_box() {
 fn a_parked_head() {
     let (mut kit, head) = (Kit::box4(), [3, 1, 2]);
     kit.insert([2, 2, 2]);
-    assert_eq!(holding(&mut kit, head), [10, 11]);
-    assert_eq!(located(&mut kit, head), (11, [0, 1, 5, 8]));
+    assert_eq!(holding(&mut kit, head), [16, 17]);
+    assert_eq!(located(&mut kit, head), (17, [0, 1, 5, 8]));
     let answer = kit.insert([4, 2, 2]);
     assert_eq!((answer.after, answer.made, answer.mesh.cells), (2, 4, 14));
-    assert_eq!(holding(&mut kit, head), [9, 13]);
-    assert_eq!(located(&mut kit, head), (9, [0, 1, 5, 8]));
+    assert_eq!(holding(&mut kit, head), [2, 17]);
+    assert_eq!(located(&mut kit, head), (17, [0, 1, 5, 8]));
 }
 
 /// The numbers of points are compared as numbers, not by digits or bytes.

@@ -7,7 +7,7 @@ use plain::{Inserted, Looked, Mesh, Position};
 
 /// The marks that an accepted look writes.
 fn marks(kit: &mut Kit, p: Position) -> Vec<u8> {
-    let mut marks = vec![9; kit.mesh.cells as usize];
+    let mut marks = vec![9; kit.mesh.used as usize];
     assert_eq!(kit.look(&mut marks, p).refusal, 0);
     marks
 }
@@ -42,17 +42,18 @@ fn pieces_of_the_started_box() {
 fn the_cells_of_the_corrected_cavity_are_marked() {
     let mut kit = Kit::box4();
     kit.insert([1, 2, 3]);
+    // Entries 0 to 5 are freed.
     assert_eq!(
         marks(&mut kit, [2, 2, 2]),
-        [1, 1, 1, 1, 1, 0, 0, 0, 0, 1, 1, 1]
+        [0, 0, 0, 0, 0, 0, 1, 1, 1, 1, 1, 0, 0, 0, 0, 1, 1, 1]
     );
-    // The base is cell 5; the cavity is cells 0 to 5 before the correction.
+    // Entry 0 is freed. The base is cell 6; the cavity is cells 1 to 6 before the correction.
     let mut kit = Kit::box4();
     kit.insert_answers(&[0; 6], [4, 1, 0]);
-    let mut marks = [9; 7];
+    let mut marks = [9; 8];
     let looked = kit.look(&mut marks, [4, 2, 0]);
     assert_eq!((looked.before, looked.after, looked.made), (6, 3, 5));
-    assert_eq!(marks, [1, 1, 0, 0, 0, 1, 0]);
+    assert_eq!(marks, [0, 1, 1, 0, 0, 0, 1, 0]);
 }
 
 /// Each look's marks, with bytes beyond that are not read, and the plain insertion beside.
@@ -99,8 +100,8 @@ fn other_marks() {
     for count in 0..right.len() {
         are_other(&mut kit, &right[..count], p);
     }
-    are_other(&mut kit, &[0; 12], p);
-    are_other(&mut kit, &[1; 12], p);
+    are_other(&mut kit, &[0; 18], p);
+    are_other(&mut kit, &[1; 18], p);
     let other = marks(&mut kit, [3, 1, 1]);
     are_other(&mut kit, &other, p);
     assert_eq!(kit.insert_marked(&right, p).refusal, 0);
@@ -161,13 +162,13 @@ fn refusals_in_order() {
     assert_eq!(kit.insert_marked(&[1; 6], [1, 2, 3]).refusal, 0);
 }
 
-/// Marks are counted against the cells of the record, in tables with room for more.
+/// Marks are counted against the used length of the record, in tables with room for more.
 #[test]
-fn as_many_marks_as_cells_are_enough() {
+fn as_many_marks_as_used_entries_are_enough() {
     let mut kit = Kit::box4();
     kit.insert([1, 2, 3]);
     let p = [2, 2, 2];
-    refuse(&mut kit, &[7; 11], p, [10, 14]);
+    refuse(&mut kit, &[7; 17], p, [10, 14]);
     let right = marks(&mut kit, p);
     assert_eq!(kit.insert_marked(&right, p).refusal, 0);
 }

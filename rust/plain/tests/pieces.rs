@@ -20,6 +20,8 @@ fn started_box() {
         z: 4,
         points: 8,
         cells: 6,
+        chain: 65_535,
+        used: 6,
     };
     assert_eq!(kit.mesh, record);
 }
@@ -29,7 +31,7 @@ fn base_and_sphere_of_1_2_3() {
     let mut kit = Kit::box4();
     let p = [1, 2, 3];
     let holds = |corners: [Position; 4]| (0..4).all(|i| plain::geometry::side(corners, i, p) >= 0);
-    let loaded = plain::loaded::Loaded::load(kit.mesh, &kit.tables.lend());
+    let loaded = kit.loaded();
     let base: Vec<usize> = (0..6).filter(|&c| holds(loaded.positions(c))).collect();
     assert_eq!(base, [3]);
     assert_eq!(loaded.positions(3), CELL_3);
@@ -87,8 +89,15 @@ fn capacity_17_and_18() {
     assert_eq!(kit.insert([1, 2, 3]), Inserted::refused(8, kit.mesh));
     assert_eq!(kit, before);
     let mut kit = Kit::started([4, 4, 4], 64, 18);
-    assert_eq!(kit.insert([1, 2, 3]).refusal, 0);
-    assert!(kit.tables.corners[48..].iter().all(|&entry| entry == 0));
+    let record = Mesh {
+        points: 9,
+        cells: 12,
+        chain: 5,
+        used: 18,
+        ..kit.mesh
+    };
+    assert_eq!(kit.insert([1, 2, 3]).mesh, record);
+    assert!(kit.check());
 }
 
 #[test]
@@ -96,10 +105,10 @@ fn every_answer_yes_and_every_answer_no() {
     let mut yes = Kit::box4();
     yes.insert([1, 2, 3]);
     let mut no = yes.clone();
-    let answer = yes.insert_answers(&[1; 12], [2, 2, 2]);
+    let answer = yes.insert_answers(&[1; 18], [2, 2, 2]);
     assert_eq!((answer.before, answer.after, answer.made), (12, 2, 6));
     assert_eq!((answer.mesh.cells, answer.least), (16, 0.0));
-    let answer = no.insert_answers(&[0; 12], [2, 2, 2]);
+    let answer = no.insert_answers(&[0; 18], [2, 2, 2]);
     assert_eq!((answer.before, answer.after, answer.made), (2, 2, 6));
     assert_eq!(yes, no);
     assert!(yes.check());
@@ -109,7 +118,7 @@ fn every_answer_yes_and_every_answer_no() {
 fn largest_box() {
     let side = 131_072;
     let mut kit = Kit::started([side; 3], 64, 64);
-    let loaded = plain::loaded::Loaded::load(kit.mesh, &kit.tables.lend());
+    let loaded = kit.loaded();
     let answer = Sphere {
         refusal: 0,
         answer: INSIDE,

@@ -8,7 +8,7 @@ use plain::{Inserted, Listed, Located, Mesh, Owned, Read, Sphere, Started, Writt
 /// Calls every mesh call and gives the refusals: insert, answers, list, locate, look, marks, write.
 fn refusals(mesh: Mesh, tables: &mut Owned) -> [u8; 7] {
     let before = tables.clone();
-    let bytes = vec![0; (mesh.cells as usize).min(5_000)];
+    let bytes = vec![0; (mesh.used as usize).min(5_000)];
     let mut out = [9; 64];
     let refusals = [
         plain::insert(mesh, &mut tables.lend(), [9, 9, 9]).refusal,
@@ -53,17 +53,26 @@ fn short_tables() {
 }
 
 #[test]
-fn fewer_answer_bytes_than_cells() {
+fn fewer_answer_bytes_than_the_used_length() {
     let mut kit = Kit::box4();
     let wild = Mesh {
         x: 0,
-        cells: u32::MAX,
+        used: u32::MAX,
         ..kit.mesh
     };
     let answer = plain::insert_answers(wild, &mut kit.tables.lend(), &[1; 100], [1, 2, 3]);
     assert_eq!(answer, Inserted::refused(1, wild));
+    let wild = Mesh {
+        cells: u32::MAX,
+        ..kit.mesh
+    };
+    let answer = plain::insert_answers(wild, &mut kit.tables.lend(), &[1; 6], [1, 2, 3]);
+    assert_eq!(answer, Inserted::refused(3, wild));
     assert_eq!(kit.insert_answers(&[1; 5], [1, 2, 3]).refusal, 1);
     assert_eq!(kit.insert_answers(&[1; 7], [1, 2, 3]).refusal, 0);
+    assert_eq!((kit.mesh.cells, kit.mesh.used), (12, 18));
+    assert_eq!(kit.insert_answers(&[1; 17], [2, 2, 2]).refusal, 1);
+    assert_eq!(kit.insert_answers(&[1; 18], [2, 2, 2]).refusal, 0);
 }
 
 #[test]
@@ -107,7 +116,16 @@ fn no_mesh() {
         Mesh { cells: 0, ..mesh },
         Mesh { cells: 5, ..mesh },
         Mesh { cells: 7, ..mesh },
-        Mesh { cells: 17, ..mesh },
+        Mesh { used: 0, ..mesh },
+        Mesh { used: 5, ..mesh },
+        Mesh { used: 7, ..mesh },
+        Mesh { used: 17, ..mesh },
+        Mesh { chain: 0, ..mesh },
+        Mesh { chain: 6, ..mesh },
+        Mesh {
+            chain: 65_536 + 65_535,
+            ..mesh
+        },
     ];
     for record in records {
         assert_eq!(refusals(record, &mut tables.clone()), [3; 7], "{record:?}");
@@ -131,8 +149,10 @@ fn no_mesh() {
     short_work.work.truncate(18);
     assert!(plain::check(mesh, &mut short_work.lend()));
     let mut grown = Kit { mesh, tables };
-    assert_eq!(grown.insert([2, 0, 0]).mesh.cells, 8);
-    grown.tables.work.truncate(23);
+    assert_eq!(grown.insert([2, 0, 0]).mesh.used, 14);
+    grown.tables.work.truncate(42);
+    assert!(grown.check());
+    grown.tables.work.truncate(41);
     assert_eq!(refusals(grown.mesh, &mut grown.tables), [3; 7]);
 }
 
@@ -157,7 +177,7 @@ fn folded_pairs_are_no_mesh() {
 fn every_face_needs_its_neighbour() {
     let mut kit = Kit::box4();
     kit.insert([1, 2, 3]);
-    for face in 0..4 * kit.mesh.cells as usize {
+    for face in 0..4 * kit.mesh.used as usize {
         let mut changed = kit.clone();
         let entry = &mut changed.tables.neighbours[face];
         *entry = if *entry == 65_535 { 0 } else { 65_535 };
@@ -289,8 +309,9 @@ fn entries_beyond_are_unchanged() {
     kit.insert([1, 2, 3]);
     assert_eq!(kit.tables.points[24..27], [1, 2, 3]);
     assert!(kit.tables.points[27..].iter().all(|&n| n == 77));
+    assert_eq!(kit.mesh.used, 18);
     for (table, mark) in [(&kit.tables.corners, 78), (&kit.tables.neighbours, 79)] {
-        assert!(table[48..72].iter().all(|&n| n == 0));
+        assert!(table[24..72].iter().all(|&n| n != mark));
         assert!(table[72..].iter().all(|&n| n == mark));
     }
 }

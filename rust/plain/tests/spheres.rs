@@ -4,7 +4,6 @@ mod common;
 
 use common::Kit;
 use plain::geometry::{exact_sum, float_sum};
-use plain::loaded::Loaded;
 use plain::{Position, INSIDE, OUTSIDE};
 
 /// Asks the sphere test, and what it goes by.
@@ -76,13 +75,13 @@ fn near_the_limit_and_far_from_it() {
 
 /// How many points lie strictly inside the spheres of how many cells they are not corners of.
 fn points_inside(kit: &mut Kit) -> usize {
-    let mesh = Loaded::load(kit.mesh, &kit.tables.lend());
+    let mesh = kit.loaded();
     let inside = |c: usize| {
         let corners = mesh.positions(c);
         let points = mesh.points.iter();
         points.filter(move |&&p| exact_sum(corners, p) > 0).count()
     };
-    (0..mesh.cells.len()).map(inside).sum()
+    mesh.cells().into_iter().map(inside).sum()
 }
 
 #[test]
@@ -104,22 +103,20 @@ fn two_even_nodes_by_the_sphere_test_and_by_rounded_answers() {
     let mut kit = Kit::started([120_000, 80_000, 60_000], 16, 60);
     kit.insert([70_000, 30_000, 20_000]);
     let p = [70_000, 30_000, 40_000];
-    let mesh = Loaded::load(kit.mesh, &kit.tables.lend());
-    let cells = 0..mesh.cells.len();
-    let ties: Vec<usize> = cells
-        .clone()
-        .filter(|&c| exact_sum(mesh.positions(c), p) == 0)
-        .collect();
+    let mesh = kit.loaded();
+    let mut ties = mesh.cells();
+    ties.retain(|&c| exact_sum(mesh.positions(c), p) == 0);
     assert_eq!(ties.len(), 8);
-    let is_above_0 = |&&c: &&usize| float_sum(mesh.positions(c), p) > 0.0;
-    let above_0: Vec<usize> = ties.iter().filter(is_above_0).copied().collect();
-    assert_eq!(above_0, [0, 9, 10, 11]);
+    let is_above_0 = |c: usize| float_sum(mesh.positions(c), p) > 0.0;
+    let above_0: Vec<usize> = ties.into_iter().filter(|&c| is_above_0(c)).collect();
+    assert_eq!(above_0, [6, 15, 16, 17]);
     let mut rounded = kit.clone();
     let answer = kit.insert(p);
     assert_eq!((answer.before, answer.after), (2, 2));
-    let bytes: Vec<u8> = cells
-        .map(|c| (float_sum(mesh.positions(c), p) > 0.0) as u8)
-        .collect();
+    let mut bytes = [0; 18];
+    for c in mesh.cells() {
+        bytes[c] = is_above_0(c).into();
+    }
     let answer = rounded.insert_answers(&bytes, p);
     assert_eq!((answer.before, answer.after), (6, 2));
     assert!(kit.check() && kit == rounded);

@@ -1,4 +1,4 @@
-//! The mesh check, one pass over the cells, and refusals 1 to 3.
+//! The mesh check, two passes over the entries and one along the chain, and refusals 1 to 3.
 
 use plain::loaded::box_corner;
 use plain::{in_box, sides_in_range, Mesh, Position, Tables, NONE, POINT_LIMIT};
@@ -12,7 +12,7 @@ pub fn check(mesh: Mesh, tables: &mut Tables) -> bool {
 
 /// Refusals 1 to 3 of a call on a mesh, or 0. A call without answer bytes passes `usize::MAX`.
 pub fn mesh_refusal(mesh: Mesh, tables: &Tables, answer_bytes: usize) -> u8 {
-    if tables.are_short() || answer_bytes < mesh.cells as usize {
+    if tables.are_short() || answer_bytes < mesh.used as usize {
         1
     } else if !sides_in_range(mesh.sides()) {
         2
@@ -25,12 +25,12 @@ pub fn mesh_refusal(mesh: Mesh, tables: &Tables, answer_bytes: usize) -> u8 {
 
 type Used<'a> = (&'a [Position], &'a [[u16; 4]], &'a [[u16; 4]]);
 
-/// The used part of points, corners and neighbours; the counts must be within the capacities.
+/// The used part of points, corners and neighbours; point count and used length must be within the capacities.
 pub fn used<'a>(mesh: Mesh, tables: &'a Tables) -> Used<'a> {
     (
         &tables.points.as_chunks().0[..mesh.points as usize],
-        &tables.corners.as_chunks().0[..mesh.cells as usize],
-        &tables.neighbours.as_chunks().0[..mesh.cells as usize],
+        &tables.corners.as_chunks().0[..mesh.used as usize],
+        &tables.neighbours.as_chunks().0[..mesh.used as usize],
     )
 }
 
@@ -41,12 +41,13 @@ fn is_mesh(mesh: Mesh, tables: &Tables) -> bool {
     if !(8..=tables.point_capacity()).contains(&(mesh.points as usize)) {
         return false;
     }
-    if !(1..=tables.cell_capacity()).contains(&(mesh.cells as usize)) {
+    if !(1..=tables.cell_capacity()).contains(&(mesh.used as usize)) {
         return false;
     }
     let (points, corners, neighbours) = used(mesh, tables);
     points_in_place(points, mesh.sides())
-        && volumes_are_right(points, corners, mesh.sides())
+        && volumes_are_right(points, corners, mesh)
+        && chain_is_right(corners, neighbours, mesh)
         && faces_are_right(corners, neighbours, &wall_codes(points, mesh.sides()))
 }
 
@@ -54,13 +55,21 @@ fn points_in_place(points: &[Position], sides: Position) -> bool {
     (0..8).all(|k| points[k] == box_corner(sides, k)) && points.iter().all(|&p| in_box(sides, p))
 }
 
-/// Corner numbers in range, every point a corner, every volume above 0, and the sum that of the box.
-fn volumes_are_right(points: &[Position], corners: &[[u16; 4]], sides: Position) -> bool {
+/// The corners of a freed entry.
+const FREED: [u16; 4] = [NONE; 4];
+
+/// Corner numbers in range, every point a corner, every volume above 0, the sum that of the box, and the count that of the cells.
+fn volumes_are_right(points: &[Position], corners: &[[u16; 4]], mesh: Mesh) -> bool {
     let mut is_corner = [false; POINT_LIMIT];
     let mut sum = 0i128;
-    for cell in corners {
+    let mut freed = 0;
+    for &cell in corners {
         if cell.iter().any(|&point| point as usize >= points.len()) {
-            return false;
+            if cell != FREED {
+                return false;
+            }
+            freed += 1;
+            continue;
         }
         let six_fold = volume(cell.map(|point| points[point as usize]));
         if six_fold <= 0 {
@@ -68,11 +77,27 @@ fn volumes_are_right(points: &[Position], corners: &[[u16; 4]], sides: Position)
         }
         sum += six_fold as i128;
         for point in cell {
-            is_corner[*point as usize % POINT_LIMIT] = true;
+            is_corner[point as usize % POINT_LIMIT] = true;
         }
     }
-    let [x, y, z] = sides.map(i128::from);
-    sum == 6 * x * y * z && is_corner[..points.len()].iter().all(|&yes| yes)
+    let [x, y, z] = mesh.sides().map(i128::from);
+    sum == 6 * x * y * z
+        && is_corner[..points.len()].iter().all(|&yes| yes)
+        && mesh.cells as usize == corners.len() - freed
+}
+
+/// Where the count is that of the cells: as many steps as there are freed entries, each from one of them, and then the end. A
+/// chain that comes to an entry twice never ends, so these are all of them.
+fn chain_is_right(corners: &[[u16; 4]], neighbours: &[[u16; 4]], mesh: Mesh) -> bool {
+    let mut next = mesh.chain;
+    for _ in mesh.cells..mesh.used {
+        let c = next as usize;
+        next = match (corners.get(c), neighbours.get(c)) {
+            (Some(&FREED), Some(&[after, NONE, NONE, NONE])) => after.into(),
+            _ => return false,
+        };
+    }
+    next == NONE.into()
 }
 
 /// For each point six bits: the walls that it lies on.
@@ -85,13 +110,16 @@ fn wall_codes(points: &[Position], sides: Position) -> [u8; POINT_LIMIT] {
     codes
 }
 
-/// In cells of positive volume with corner numbers in range.
+/// In cells of positive volume with corner numbers in range, and freed entries.
 fn faces_are_right(
     corners: &[[u16; 4]],
     neighbours: &[[u16; 4]],
     walls: &[u8; POINT_LIMIT],
 ) -> bool {
     for (c, (cell, across)) in corners.iter().zip(neighbours).enumerate() {
+        if *cell == FREED {
+            continue;
+        }
         for (i, &u) in across.iter().enumerate() {
             let face = turned_face(cell, i);
             let right = if u == NONE {

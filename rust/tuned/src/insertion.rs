@@ -88,19 +88,15 @@ fn insert_in_mesh(
     p: Position,
 ) -> Result<Inserted, u8> {
     let corrected = find(mesh, tables, scratch, answers, p)?;
-    let (points, cells) = (mesh.points as usize, mesh.cells as usize);
-    if marks.is_some_and(|marks| !are_those_of(marks, cells, corrected.cells(tables))) {
+    let used = mesh.used as usize;
+    if marks.is_some_and(|marks| !are_those_of(marks, used, corrected.cells(tables))) {
         return Err(14);
     }
-    let numbers = &mut scratch.numbers;
-    write_star(tables, numbers, points as u16, cells, &corrected);
+    let report = corrected.report(mesh);
+    tables.points.as_chunks_mut().0[mesh.points as usize] = p;
+    let mesh = write_star(mesh, tables, &mut scratch.first_new, &corrected);
     forget(tables, &corrected);
-    tables.points[3 * points..3 * points + 3].copy_from_slice(&p);
-    Ok(corrected.report(mesh).with(Mesh {
-        points: mesh.points + 1,
-        cells: (cells + corrected.made - corrected.after) as u32,
-        ..mesh
-    }))
+    Ok(report.with(mesh))
 }
 
 /// Tests 4 to 8, and the corrected cavity; nothing but the work area is written.
@@ -144,8 +140,8 @@ fn corrected_cavity(
     let (states, rest) = tables.work.split_at_mut(capacity);
     let mut cavity = Cavity {
         points: &tables.points.as_chunks().0[..mesh.points as usize],
-        corners: &tables.corners.as_chunks().0[..mesh.cells as usize],
-        neighbours: &tables.neighbours.as_chunks().0[..mesh.cells as usize],
+        corners: &tables.corners.as_chunks().0[..mesh.used as usize],
+        neighbours: &tables.neighbours.as_chunks().0[..mesh.used as usize],
         states,
         list: &mut rest[..capacity],
         len: 0,

@@ -1,6 +1,7 @@
 //! The calls of document 01 and of the requests that have landed, made fast: volumes in i64 that share cross products, lists of
 //! cavity cells in the work area, side codes instead of volumes where they decide, the exact sphere sum only where the float one
-//! is close to 0, kept cells moved by runs, the far-side test by parity, the nodes of two files in a hash set.
+//! is close to 0, the far-side test by parity, the nodes of two files in a hash set. Of what a node costs, only the search for its
+//! base grows with the mesh.
 //! Every answer and every entry equals that of `plain`. From there come the record and answer types, and what has nothing
 //! to gain: the start and the node file's reader.
 

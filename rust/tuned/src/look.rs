@@ -25,7 +25,7 @@ fn look_in_mesh(
     p: Position,
 ) -> Result<Looked, u8> {
     let corrected = find(mesh, tables, &mut Scratch::new(), Answers::SphereTest, p)?;
-    let marks = marks.get_mut(..mesh.cells as usize).ok_or(10)?;
+    let marks = marks.get_mut(..mesh.used as usize).ok_or(10)?;
     marks.fill(0);
     for &c in corrected.cells(tables) {
         marks[c as usize] = 1;
@@ -33,9 +33,9 @@ fn look_in_mesh(
     Ok(corrected.report(mesh))
 }
 
-/// Would a look at this cavity, in a mesh of so many cells, write these marks? The cavity's are 1, and no more are nonzero.
-pub fn are_those_of(marks: &[u8], cells: usize, cavity: &[u16]) -> bool {
-    marks.get(..cells).is_some_and(|marks| {
+/// Would a look at this cavity, with so many entries used, write these marks? The cavity's are 1, and no more are nonzero.
+pub fn are_those_of(marks: &[u8], used: usize, cavity: &[u16]) -> bool {
+    marks.get(..used).is_some_and(|marks| {
         cavity.iter().all(|&c| marks[c as usize] == 1)
             && marks.iter().filter(|&&mark| mark != 0).count() == cavity.len()
     })

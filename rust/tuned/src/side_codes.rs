@@ -1,9 +1,7 @@
 //! Side codes: for each point six bits, below or above P on each axis. A cell holds P only where its four codes share no
 //! bit: P is then in the cell's bounding box. Code 0 is a point at P.
 
-use plain::{Position, POINT_LIMIT};
-
-use crate::geometry::{offset, sides};
+use plain::{Position, NONE, POINT_LIMIT};
 
 pub struct SideCodes([u8; POINT_LIMIT]);
 
@@ -23,17 +21,10 @@ impl SideCodes {
         self.0[..points].contains(&0)
     }
 
+    /// Of an entry of a mesh, where the first corner tells whether it is freed; few come to that.
     #[inline]
     pub fn may_hold(&self, cell: &[u16; 4]) -> bool {
         let code = |i: usize| self.0[cell[i] as usize % POINT_LIMIT];
-        code(0) & code(1) & code(2) & code(3) == 0
-    }
-
-    #[inline]
-    pub fn cell_holds(&self, points: &[Position], cell: [u16; 4], p: Position) -> bool {
-        self.may_hold(&cell) && {
-            let v = sides(cell.map(|point| offset(points[point as usize], p)));
-            v.iter().all(|&side| side >= 0)
-        }
+        code(0) & code(1) & code(2) & code(3) == 0 && cell[0] != NONE
     }
 }

@@ -1,61 +1,80 @@
-//! The star: new cells written past the old count, linked, then kept cells moved down over the cavity's.
+//! The star: new cells written to free entries and linked while the cavity's still stand, then these freed. Nothing here grows
+//! with the mesh.
 
-use plain::{Tables, CELL_LIMIT, NONE};
+use plain::{Mesh, Tables, CELL_LIMIT, NONE};
 
 use crate::cavity::{star_faces, Corrected};
 
 /// A neighbour entry of a new cell that is not linked yet; no cell has this number.
 const UNLINKED: u16 = 65_534;
 
-/// The cells' tables up to the old count plus the new cells, and the corrected cavity in the work area.
+/// The cells' tables, and the corrected cavity in the work area.
 struct Star<'a> {
     corners: &'a mut [[u16; 4]],
     neighbours: &'a mut [[u16; 4]],
     states: &'a [u16],
     /// The cavity, rising.
     cavity: &'a [u16],
-    /// First the first new cell of each cavity cell, then the new number of every cell.
-    numbers: &'a mut Numbers,
-    old_count: usize,
+    /// The numbers of the new cells, by cavity cell, then face; in the last third of the work area.
+    new: &'a mut [u16],
+    /// For each cavity cell the place of its first among these.
+    first_new: &'a mut [u16; CELL_LIMIT],
 }
 
-/// Twice as long as a table of cells, so that `NONE` is the last place, and stays.
-pub type Numbers = [u16; 2 * CELL_LIMIT];
-
-pub const NO_NUMBERS: Numbers = [NONE; 2 * CELL_LIMIT];
-
+/// Answers the record with the new point and the star.
 pub fn write_star(
+    mesh: Mesh,
     tables: &mut Tables,
-    numbers: &mut Numbers,
-    point: u16,
-    old_count: usize,
+    first_new: &mut [u16; CELL_LIMIT],
     corrected: &Corrected,
-) {
-    let end = old_count + corrected.made;
+) -> Mesh {
     let capacity = tables.cell_capacity();
-    let (states, list) = tables.work.split_at_mut(capacity);
+    let (states, rest) = tables.work.split_at_mut(capacity);
+    let (list, new) = rest.split_at_mut(capacity);
     let mut star = Star {
-        corners: &mut tables.corners.as_chunks_mut().0[..end],
-        neighbours: &mut tables.neighbours.as_chunks_mut().0[..end],
+        corners: tables.corners.as_chunks_mut().0,
+        neighbours: tables.neighbours.as_chunks_mut().0,
         states,
         cavity: &list[..corrected.after],
-        numbers,
-        old_count,
+        new: &mut new[..corrected.made],
+        first_new,
     };
-    star.write_new_cells(point);
+    let (chain, used) = star.take_numbers(mesh);
+    star.write_new_cells(mesh.points as u16);
     star.link_new_cells();
-    star.move_kept_cells();
-    star.renumber();
+    Mesh {
+        points: mesh.points + 1,
+        cells: mesh.cells + corrected.made as u32 - corrected.after as u32,
+        chain: star.free_cavity(chain).into(),
+        used: used.into(),
+        ..mesh
+    }
 }
 
 impl Star<'_> {
-    /// New cells by old cell number, then face number; what lay across the old face names its new cell back.
+    /// "The chain, then the end of the table": answers what is left of the chain, and the used length.
+    fn take_numbers(&mut self, mesh: Mesh) -> (u16, u16) {
+        let (mut chain, mut used) = (mesh.chain as u16, mesh.used as u16);
+        for number in &mut *self.new {
+            if chain != NONE {
+                *number = chain;
+                chain = self.neighbours[chain as usize][0];
+            } else {
+                *number = used;
+                used += 1;
+            }
+        }
+        (chain, used)
+    }
+
+    /// By old cell number, then face number; what lay across the old face names its new cell back.
     fn write_new_cells(&mut self, point: u16) {
-        let mut new = self.old_count;
+        let mut place = 0;
         for &c in self.cavity {
             let c = c as usize;
-            self.numbers[c] = new as u16;
+            self.first_new[c] = place as u16;
             for i in faces(star_faces(self.states[c])) {
+                let new = self.new[place] as usize;
                 self.corners[new] = self.corners[c];
                 self.corners[new][i] = point;
                 let across = self.neighbours[c][i];
@@ -63,23 +82,24 @@ impl Star<'_> {
                 self.neighbours[new][i] = across;
                 if across != NONE {
                     let back = &mut self.neighbours[across as usize];
-                    back[place(*back, c as u16)] = new as u16;
+                    back[self::place(*back, c as u16)] = new as u16;
                 }
-                new += 1;
+                place += 1;
             }
         }
     }
 
     fn link_new_cells(&mut self) {
-        let mut new = self.old_count;
+        let mut place = 0;
         for &c in self.cavity {
             for i in faces(star_faces(self.states[c as usize])) {
+                let new = self.new[place] as usize;
                 for j in 0..4 {
                     if self.neighbours[new][j] == UNLINKED {
                         self.link(new, c as usize, i, j);
                     }
                 }
-                new += 1;
+                place += 1;
             }
         }
     }
@@ -91,7 +111,7 @@ impl Star<'_> {
             let star = star_faces(self.states[c]);
             if star >> j & 1 == 1 {
                 let earlier = (star & ((1 << j) - 1)).count_ones() as u16;
-                let other = self.numbers[c] + earlier;
+                let other = self.new[(self.first_new[c] + earlier) as usize];
                 self.neighbours[other as usize][i] = new as u16;
                 self.neighbours[new][edge_face] = other;
                 return;
@@ -112,33 +132,14 @@ impl Star<'_> {
         }
     }
 
-    /// Moves the kept cells down by runs, the new cells with the last run, and clears what is left.
-    fn move_kept_cells(&mut self) {
-        let end = self.corners.len();
-        for (place, &c) in self.cavity.iter().enumerate() {
-            let from = c as usize + 1;
-            let to = self.cavity.get(place + 1).map_or(end, |&d| d as usize);
-            let moved = from - (place + 1);
-            self.corners.copy_within(from..to, moved);
-            self.neighbours.copy_within(from..to, moved);
-            for (number, moved) in self.numbers[from..to].iter_mut().zip(moved as u16..) {
-                *number = moved;
-            }
+    /// "The spot's own numbers join the chain afterwards one by one, rising": answers its first number.
+    fn free_cavity(&mut self, mut chain: u16) -> u16 {
+        for &c in self.cavity {
+            self.corners[c as usize] = [NONE; 4];
+            self.neighbours[c as usize] = [chain, NONE, NONE, NONE];
+            chain = c;
         }
-        let first = self.cavity[0] as usize;
-        for (number, same) in self.numbers[..first].iter_mut().zip(0..) {
-            *number = same;
-        }
-        let count = end - self.cavity.len();
-        self.corners[count..].fill([0; 4]);
-        self.neighbours[count..].fill([0; 4]);
-    }
-
-    fn renumber(&mut self) {
-        let count = self.corners.len() - self.cavity.len();
-        for cell in &mut self.neighbours[..count] {
-            *cell = cell.map(|u| self.numbers[u as usize % self.numbers.len()]);
-        }
+        chain
     }
 }
 

@@ -98,12 +98,12 @@ fn single_insertions() {
         let mut pair = Pair::started([side; 3], 60, 300);
         for _ in 0..40 {
             let p = position(&mut random, side, spacing);
-            let cells = pair.mesh.cells as usize;
+            let used = pair.mesh.used as usize;
             match random.below(4) {
-                0 => pair.insert_answers(&vec![1; cells], p),
-                1 => pair.insert_answers(&vec![0; cells], p),
+                0 => pair.insert_answers(&vec![1; used], p),
+                1 => pair.insert_answers(&vec![0; used], p),
                 2 => {
-                    let bytes: Vec<u8> = (0..cells).map(|_| random.below(2) as u8).collect();
+                    let bytes: Vec<u8> = (0..used).map(|_| random.below(2) as u8).collect();
                     pair.insert_answers(&bytes, p)
                 }
                 _ => {
@@ -126,16 +126,16 @@ fn looks_and_marks() {
         let mut pair = Pair::started([side; 3], 30, room);
         for _ in 0..40 {
             let p = position(&mut random, side, spacing);
-            let cells = pair.mesh.cells as usize;
+            let used = pair.mesh.used as usize;
             if random.one_in(3) {
-                let bytes: Vec<u8> = (0..cells).map(|_| random.below(2) as u8).collect();
+                let bytes: Vec<u8> = (0..used).map(|_| random.below(2) as u8).collect();
                 pair.insert_answers(&bytes, p);
                 continue;
             }
-            pair.look(p, cells.saturating_sub(random.index(3)));
-            let mut marks = pair.look(p, cells + random.index(3));
+            pair.look(p, used.saturating_sub(random.index(3)));
+            let mut marks = pair.look(p, used + random.index(3));
             if random.one_in(3) {
-                marks[random.index(cells)] ^= random.pick(&[1, 2, 3, 255]);
+                marks[random.index(used)] ^= random.pick(&[1, 2, 3, 255]);
             }
             marks.truncate(marks.len() - random.pick(&[0, 0, 0, 1]));
             refusals[pair.insert_marked(&marks, p) as usize] += 1;
@@ -174,44 +174,79 @@ fn a_lattice_that_fills_the_tables() {
     }
 }
 
-#[test]
-fn every_table_entry_changed() {
-    let mut random = Random::new(1);
+/// What both builds make of a record and tables that need be no mesh.
+fn any_tables(mesh: Mesh, tables: &Owned) {
+    let [mut left, mut right] = [tables.clone(), tables.clone()];
+    let yes = plain::check(mesh, &mut left.lend());
+    assert_eq!(yes, tuned::check(mesh, &mut right.lend()));
+    let p = [3, 3, 1];
+    let mut marks = [[1; 60]; 2];
+    let looked = plain::look(mesh, &mut left.lend(), &mut marks[0], p);
+    assert_eq!(
+        looked,
+        tuned::look(mesh, &mut right.lend(), &mut marks[1], p)
+    );
+    assert_eq!(marks[0], marks[1]);
+    let answers = [1; 50];
+    let inserted = plain::insert_answers(mesh, &mut left.lend(), &answers, p);
+    assert_eq!(
+        bits(inserted),
+        bits(tuned::insert_answers(mesh, &mut right.lend(), &answers, p))
+    );
+    assert_eq!(left, right);
+}
+
+/// With freed entries.
+fn two_nodes() -> Pair {
     let mut pair = Pair::started([4; 3], 12, 60);
     pair.insert([1, 2, 3]);
     pair.insert([2, 0, 2]);
-    let mesh = pair.mesh;
+    assert_eq!(pair.mesh.used - pair.mesh.cells, 6);
+    pair
+}
+
+#[test]
+fn every_table_entry_changed() {
+    let mut random = Random::new(1);
+    let Pair { mesh, plain, .. } = two_nodes();
     for table in 0..3 {
         let used = if table == 0 {
             3 * mesh.points
         } else {
-            4 * mesh.cells
+            4 * mesh.used
         };
         for place in 0..used as usize {
-            let mut left = pair.plain.clone();
+            let mut tables = plain.clone();
             let number = random.pick(&[0, 1, 2, 3, 4, 5, 8, 65_535]);
             match table {
-                0 => left.points[place] = number as u32,
-                1 => left.corners[place] = number,
-                _ => left.neighbours[place] = number,
+                0 => tables.points[place] = number as u32,
+                1 => tables.corners[place] = number,
+                _ => tables.neighbours[place] = number,
             }
-            let mut right = left.clone();
-            let yes = plain::check(mesh, &mut left.lend());
-            assert_eq!(yes, tuned::check(mesh, &mut right.lend()));
-            let p = [3, 3, 1];
-            let mut marks = [[1; 60]; 2];
-            let looked = plain::look(mesh, &mut left.lend(), &mut marks[0], p);
-            assert_eq!(
-                looked,
-                tuned::look(mesh, &mut right.lend(), &mut marks[1], p)
-            );
-            assert_eq!(marks[0], marks[1]);
-            let inserted = plain::insert(mesh, &mut left.lend(), p);
-            assert_eq!(
-                bits(inserted),
-                bits(tuned::insert(mesh, &mut right.lend(), p))
-            );
-            assert_eq!(left, right);
+            any_tables(mesh, &tables);
+        }
+    }
+}
+
+#[test]
+fn every_number_of_the_record_changed() {
+    let fields: [fn(&mut Mesh) -> &mut u32; 7] = [
+        |mesh| &mut mesh.x,
+        |mesh| &mut mesh.y,
+        |mesh| &mut mesh.z,
+        |mesh| &mut mesh.points,
+        |mesh| &mut mesh.cells,
+        |mesh| &mut mesh.chain,
+        |mesh| &mut mesh.used,
+    ];
+    for Pair { mesh, plain, .. } in [Pair::started([4; 3], 12, 60), two_nodes()] {
+        let same_low_bits = 1 << 16 | mesh.chain;
+        for field in fields {
+            for number in (0..80).chain([65_534, 65_535, 65_536, same_low_bits, u32::MAX]) {
+                let mut mesh = mesh;
+                *field(&mut mesh) = number;
+                any_tables(mesh, &plain);
+            }
         }
     }
 }

@@ -2,7 +2,10 @@
 //! five of document 01's list "Known wrong builds" come first, under its words.
 
 use plain::cavity::{Candidate, Cavity, Face};
-use plain::{Position, RightRules, Rules};
+use plain::loaded::{Chain, End, Loaded};
+use plain::numbers::Free;
+use plain::packed::Packed;
+use plain::{Answers, Mesh, Position, RightRules, Rules, NONE};
 
 #[derive(Clone, Copy)]
 pub struct Build {
@@ -10,7 +13,7 @@ pub struct Build {
     pub rules: &'static dyn Rules,
 }
 
-pub const ALL: [Build; 23] = [
+pub const ALL: [Build; 42] = [
     build("zero-visible", &ZeroVisible),
     build("coplanar-starred", &CoplanarStarred),
     build("base-removed", &BaseRemoved),
@@ -31,9 +34,28 @@ pub const ALL: [Build; 23] = [
     build("across-files-only", &AcrossFilesOnly),
     build("marks-before-correction", &MarksBeforeCorrection),
     build("marks-of-the-base", &MarksOfTheBase),
-    build("marks-cleared-past-the-count", &MarksClearedPastTheCount),
+    build("marks-cleared-past-the-used", &MarksClearedPastTheUsed),
     build("any-nonzero-mark", &AnyNonzeroMark),
     build("marks-first", &MarksFirst),
+    build("packed", &Packed),
+    build("chain-from-its-end", &ChainFromItsEnd),
+    build("freed-falling", &FreedFalling),
+    build("freed-first", &FreedFirst),
+    build("one-left-off", &OneLeftOff),
+    build("used-not-raised", &UsedNotRaised),
+    build("used-raised-to-the-count", &UsedRaisedToTheCount),
+    build("freed-answer-counted", &FreedAnswerCounted),
+    build("freed-entries-hold", &FreedEntriesHold),
+    build("answers-by-the-count", &AnswersByTheCount),
+    build("marks-by-the-count", &MarksByTheCount),
+    build("freed-unmarked", &FreedUnmarked),
+    build("freed-mark-ignored", &FreedMarkIgnored),
+    build("neighbours-by-the-count", &NeighboursByTheCount),
+    build("circle-passes", &CirclePasses),
+    build("missed-freed-passes", &MissedFreedPasses),
+    build("one-corner-frees", &OneCornerFrees),
+    build("freed-neighbours-any", &FreedNeighboursAny),
+    build("count-any", &CountAny),
 ];
 
 const fn build(name: &'static str, rules: &'static dyn Rules) -> Build {
@@ -234,13 +256,13 @@ impl Rules for MarksOfTheBase {
     }
 }
 
-/// A look clears all marks that it is lent before it writes those of the cells.
-pub struct MarksClearedPastTheCount;
+/// A look clears all marks that it is lent before it writes those up to the used length.
+pub struct MarksClearedPastTheUsed;
 
-impl Rules for MarksClearedPastTheCount {
-    fn write_marks(&self, replaced: &[bool], marks: &mut [u8]) {
+impl Rules for MarksClearedPastTheUsed {
+    fn write_marks(&self, mesh: &Loaded, replaced: &[bool], marks: &mut [u8]) {
         marks.fill(0);
-        RightRules.write_marks(replaced, marks);
+        RightRules.write_marks(mesh, replaced, marks);
     }
 }
 
@@ -248,7 +270,7 @@ impl Rules for MarksClearedPastTheCount {
 pub struct AnyNonzeroMark;
 
 impl Rules for AnyNonzeroMark {
-    fn is_same_mark(&self, mark: u8, is_replaced: bool) -> bool {
+    fn is_same_mark(&self, mark: u8, is_replaced: bool, _is_freed: bool) -> bool {
         (mark != 0) == is_replaced
     }
 }
@@ -263,5 +285,189 @@ impl Rules for MarksFirst {
             (false, true) => 8,
             (false, false) => 0,
         }
+    }
+}
+
+/// New cells take the chain from its end: the number that was freed first is used first.
+pub struct ChainFromItsEnd;
+
+impl Rules for ChainFromItsEnd {
+    fn allot(&self, free: &mut Free, cavity: &[usize], made: usize) -> Vec<usize> {
+        free.chain.reverse();
+        let new = free.take(made);
+        free.chain.reverse();
+        free.join(cavity);
+        new
+    }
+}
+
+/// The cavity's numbers join the chain falling, so that the lowest is used first.
+pub struct FreedFalling;
+
+impl Rules for FreedFalling {
+    fn allot(&self, free: &mut Free, cavity: &[usize], made: usize) -> Vec<usize> {
+        let new = free.take(made);
+        let falling: Vec<usize> = cavity.iter().rev().copied().collect();
+        free.join(&falling);
+        new
+    }
+}
+
+/// The cavity's numbers join the chain before new cells take theirs, which are then the cavity's.
+pub struct FreedFirst;
+
+impl Rules for FreedFirst {
+    fn allot(&self, free: &mut Free, cavity: &[usize], made: usize) -> Vec<usize> {
+        free.join(cavity);
+        free.take(made)
+    }
+}
+
+/// The first of the cavity's numbers does not join the chain.
+pub struct OneLeftOff;
+
+impl Rules for OneLeftOff {
+    fn allot(&self, free: &mut Free, cavity: &[usize], made: usize) -> Vec<usize> {
+        let new = free.take(made);
+        free.join(&cavity[1..]);
+        new
+    }
+}
+
+/// The used length stays what it was.
+pub struct UsedNotRaised;
+
+impl Rules for UsedNotRaised {
+    fn used_after(&self, before: usize, _end: usize, _cells: usize) -> usize {
+        before
+    }
+}
+
+/// The used length is raised to the cell count after the insertion, as if the cavity's numbers had been free for it.
+pub struct UsedRaisedToTheCount;
+
+impl Rules for UsedRaisedToTheCount {
+    fn used_after(&self, before: usize, _end: usize, cells: usize) -> usize {
+        before.max(cells)
+    }
+}
+
+/// A freed entry whose answer is yes is counted in the cavity; the correction removes it.
+pub struct FreedAnswerCounted;
+
+impl Rules for FreedAnswerCounted {
+    fn grow(&self, cavity: &mut Cavity, answers: Answers) {
+        cavity.grow(answers);
+        let Answers::Given(bytes) = answers else {
+            return;
+        };
+        for (c, &byte) in bytes.iter().enumerate().take(cavity.mesh.entries.len()) {
+            cavity.in_cavity[c] |= byte != 0 && cavity.mesh.is_freed(c);
+        }
+    }
+}
+
+/// A freed entry holds every position: its four corners are one point, and so its four sides are 0. It is in every base; located
+/// it never is, since its corners come last in order.
+pub struct FreedEntriesHold;
+
+impl Rules for FreedEntriesHold {
+    fn may_hold(&self, _is_freed: bool) -> bool {
+        true
+    }
+}
+
+/// As many answers as cells are enough.
+pub struct AnswersByTheCount;
+
+impl Rules for AnswersByTheCount {
+    fn answers_wanted(&self, mesh: Mesh) -> usize {
+        mesh.cells as usize
+    }
+}
+
+/// As many marks as cells are written, and looked at.
+pub struct MarksByTheCount;
+
+impl Rules for MarksByTheCount {
+    fn replaced(&self, grown: &[bool], corrected: &Cavity) -> Vec<bool> {
+        let mut replaced = RightRules.replaced(grown, corrected);
+        replaced.truncate(corrected.mesh.record.cells as usize);
+        replaced
+    }
+}
+
+/// A look leaves the marks of freed entries as they were: they are no cells.
+pub struct FreedUnmarked;
+
+impl Rules for FreedUnmarked {
+    fn write_marks(&self, mesh: &Loaded, replaced: &[bool], marks: &mut [u8]) {
+        for c in mesh.cells() {
+            marks[c] = replaced[c].into();
+        }
+    }
+}
+
+/// An insertion does not look at the marks of freed entries, as one by answers does not at their answers.
+pub struct FreedMarkIgnored;
+
+impl Rules for FreedMarkIgnored {
+    fn is_same_mark(&self, mark: u8, is_replaced: bool, is_freed: bool) -> bool {
+        is_freed || RightRules.is_same_mark(mark, is_replaced, is_freed)
+    }
+}
+
+/// The mesh check bounds neighbour numbers by the cell count: the rule that document 02 §11 replaces.
+pub struct NeighboursByTheCount;
+
+impl Rules for NeighboursByTheCount {
+    fn neighbour_limit(&self, mesh: Mesh) -> usize {
+        mesh.cells as usize
+    }
+}
+
+/// The mesh check follows the chain for as many steps as there are freed entries, and does not ask that it ends there: one that
+/// runs in a circle passes.
+pub struct CirclePasses;
+
+impl Rules for CirclePasses {
+    fn is_whole(&self, chain: &Chain, freed: usize) -> bool {
+        chain.numbers.len() == freed
+    }
+}
+
+/// The mesh check follows the chain to its end, and does not look for freed entries that are not on it.
+pub struct MissedFreedPasses;
+
+impl Rules for MissedFreedPasses {
+    fn is_whole(&self, chain: &Chain, _freed: usize) -> bool {
+        chain.end == End::Last
+    }
+}
+
+/// An entry is freed if its first corner is 65,535, whatever the others are.
+pub struct OneCornerFrees;
+
+impl Rules for OneCornerFrees {
+    fn is_freed(&self, corners: [u16; 4]) -> bool {
+        corners[0] == NONE
+    }
+}
+
+/// The mesh check does not look at the other three neighbours of a freed entry.
+pub struct FreedNeighboursAny;
+
+impl Rules for FreedNeighboursAny {
+    fn are_freed_neighbours(&self, _others: [u16; 3]) -> bool {
+        true
+    }
+}
+
+/// The mesh check does not compare the cell count with the entries.
+pub struct CountAny;
+
+impl Rules for CountAny {
+    fn is_cell_count(&self, _count: usize, _cells: usize) -> bool {
+        true
     }
 }

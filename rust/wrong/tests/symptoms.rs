@@ -1,122 +1,19 @@
 //! What each wrong build does to a mesh, a located position, a merged file or the marks of a look: for the five known ones,
-//! the symptom that document 01 names.
+//! the symptom that document 01 names. Those of the numbers of cells are in `numbers.rs`.
 
-use plain::geometry::{exact_sum, float_sum};
-use plain::loaded::Loaded;
+mod common;
+
+use common::Kit;
+use plain::geometry::float_sum;
 use plain::nodefile::encode;
 use plain::random::Random;
-use plain::{Answers, Inserted, Mesh, Owned, Position, RightRules, Rules};
+use plain::{Answers, Position, RightRules, Rules};
 use wrong::{
     AcrossFilesOnly, AnyNonzeroMark, BaseRemoved, CloseOutside, CoplanarKeeps, CoplanarStarred,
     CornersUnsorted, FarSideLeftOut, FloatSign, GreatestFirst, LastInOrder, LostCornersOnly,
-    LowestNumbered, MarksBeforeCorrection, MarksClearedPastTheCount, MarksFirst, MarksOfTheBase,
+    LowestNumbered, MarksBeforeCorrection, MarksClearedPastTheUsed, MarksFirst, MarksOfTheBase,
     OneAtATime, OneRound, SecondFirst, TieInside, VisibilityOnly, ZeroVisible,
 };
-
-#[derive(Clone, Debug, PartialEq, Eq)]
-struct Kit {
-    mesh: Mesh,
-    tables: Owned,
-}
-
-impl Kit {
-    fn started(sides: Position) -> Kit {
-        let mut tables = Owned::with_room(40, 400);
-        let started = plain::start(sides, &mut tables.lend());
-        assert_eq!(started.refusal, 0);
-        Kit {
-            mesh: started.mesh,
-            tables,
-        }
-    }
-
-    fn insert(&mut self, rules: &dyn Rules, answers: Answers, p: Position) -> Inserted {
-        let answer = plain::insert_with(rules, self.mesh, &mut self.tables.lend(), answers, p);
-        assert_eq!(answer.refusal, 0);
-        self.mesh = answer.mesh;
-        answer
-    }
-
-    /// The box 4, 4, 4 with these nodes put in by a build, every answer yes.
-    fn with(rules: &dyn Rules, nodes: &[Position]) -> Kit {
-        let mut kit = Kit::started([4; 3]);
-        for &p in nodes {
-            kit.insert(rules, Answers::Given(&[1; 64]), p);
-        }
-        kit
-    }
-
-    /// A box with these nodes put in by a build's sphere test.
-    fn grown(rules: &dyn Rules, sides: Position, nodes: &[Position]) -> Kit {
-        let mut kit = Kit::started(sides);
-        for &p in nodes {
-            kit.insert(rules, Answers::SphereTest, p);
-        }
-        kit
-    }
-
-    /// The box 4, 4, 4 with these nodes put in by the sphere test.
-    fn measured(nodes: &[Position]) -> Kit {
-        Kit::grown(&RightRules, [4; 3], nodes)
-    }
-
-    /// Of how many cells does the sphere have a point strictly inside?
-    fn spheres_with_a_point(&mut self) -> usize {
-        let mesh = Loaded::load(self.mesh, &self.tables.lend());
-        let has_a_point = |&c: &usize| {
-            let corners = mesh.positions(c);
-            mesh.points.iter().any(|&p| exact_sum(corners, p) > 0)
-        };
-        (0..mesh.cells.len()).filter(has_a_point).count()
-    }
-
-    fn is_mesh(&mut self) -> bool {
-        plain::check(self.mesh, &mut self.tables.lend())
-    }
-
-    fn volumes(&mut self) -> Vec<i128> {
-        let loaded = Loaded::load(self.mesh, &self.tables.lend());
-        (0..loaded.cells.len()).map(|c| loaded.volume(c)).collect()
-    }
-
-    fn has_corner(&self, point: u16) -> bool {
-        self.tables.corners[..4 * self.mesh.cells as usize].contains(&point)
-    }
-
-    /// The cell in which a build locates a position, and its corners, sorted upward.
-    fn located(&mut self, rules: &dyn Rules, p: Position) -> (u32, [u16; 4]) {
-        let answer = plain::locate_with(rules, self.mesh, &mut self.tables.lend(), p);
-        assert_eq!(answer.refusal, 0);
-        let mut corners = self.tables.corners.as_chunks().0[answer.cell as usize];
-        corners.sort();
-        (answer.cell, corners)
-    }
-
-    /// The same cells, two of them with each other's number.
-    fn swapped(&self, a: u16, b: u16) -> Kit {
-        let mut kit = self.clone();
-        for table in [&mut kit.tables.corners, &mut kit.tables.neighbours] {
-            table.as_chunks_mut::<4>().0.swap(a.into(), b.into());
-        }
-        for entry in &mut kit.tables.neighbours[..4 * self.mesh.cells as usize] {
-            *entry = match *entry {
-                c if c == a => b,
-                c if c == b => a,
-                c => c,
-            };
-        }
-        kit
-    }
-
-    /// The same cells, the last three places of one of them turned.
-    fn turned(&self, c: usize) -> Kit {
-        let mut kit = self.clone();
-        for table in [&mut kit.tables.corners, &mut kit.tables.neighbours] {
-            table[4 * c + 1..4 * c + 4].rotate_left(1);
-        }
-        kit
-    }
-}
 
 /// What a wrong build leaves; the right one leaves a mesh.
 fn wrongly(rules: &dyn Rules, nodes: &[Position]) -> Kit {
@@ -231,13 +128,10 @@ fn parked(rules: &dyn Rules, wall: Position) -> [(u32, [u16; 4]); 2] {
 fn readmes_head_by_either_rule() {
     let [right, wrong] =
         [&RightRules as &dyn Rules, &LowestNumbered].map(|rules| parked(rules, [4, 2, 2]));
-    assert_eq!(right, [(11, [0, 1, 5, 8]), (9, [0, 1, 5, 8])]);
-    assert_eq!(wrong, [(10, [1, 5, 7, 8]), (9, [0, 1, 5, 8])]);
+    assert_eq!(right, [(17, [0, 1, 5, 8]), (17, [0, 1, 5, 8])]);
+    assert_eq!(wrong, [(16, [1, 5, 7, 8]), (2, [1, 5, 8, 9])]);
     let readme = include_str!("../../../README.md");
-    for (rule, located) in [
-        ("the corners", right),
-        ("the lowest number, up to 0.3.0", wrong),
-    ] {
+    for (rule, located) in [("the corners", right), ("the lowest number", wrong)] {
         let [before, after] =
             located.map(|(cell, [a, b, c, d])| format!("cell {cell}, corners {a} {b} {c} {d}"));
         let row = format!("\n| {rule} | {before} | {after} |\n");
@@ -318,15 +212,15 @@ fn across_files_only_leaves_a_node_that_does_not_go_in() {
 fn has_cell(rules: &dyn Rules, is_marked: bool, is_replaced: bool) -> bool {
     let mut kit = Kit::started([4; 3]);
     kit.insert(&RightRules, Answers::Given(&[0; 6]), [4, 1, 0]);
-    let (p, mut marks) = ([4, 2, 0], [9; 7]);
+    let (p, mut marks) = ([4, 2, 0], [9; 8]);
     let looked = plain::look_with(rules, kit.mesh, &mut kit.tables.lend(), &mut marks, p);
     assert_eq!((looked.refusal, looked.before, looked.after), (0, 6, 3));
     let mut after = kit.clone();
     after.insert(&RightRules, Answers::SphereTest, p);
-    let (left, _) = after.tables.corners[..4 * after.mesh.cells as usize].as_chunks::<4>();
-    let (cells, _) = kit.tables.corners.as_chunks();
-    let mut marked = cells.iter().zip(marks);
-    marked.any(|(cell, mark)| (mark == 1, !left.contains(cell)) == (is_marked, is_replaced))
+    let (left, _) = after.tables.corners[..4 * after.mesh.used as usize].as_chunks::<4>();
+    let is_replaced_cell = |c: usize| !left.contains(&kit.tables.corners.as_chunks().0[c]);
+    let mut cells = kit.clone().loaded().cells().into_iter();
+    cells.any(|c| (marks[c] == 1, is_replaced_cell(c)) == (is_marked, is_replaced))
 }
 
 #[test]
@@ -343,7 +237,7 @@ fn marks_of_the_base_leaves_out_a_cell_that_goes() {
 
 /// The marks of two looks, one behind the other.
 #[test]
-fn marks_cleared_past_the_count_loses_the_marks_behind() {
+fn marks_cleared_past_the_used_loses_the_marks_behind() {
     let mut kit = Kit::started([4; 3]);
     let mut looked = |rules: &dyn Rules| {
         let mut both = [9; 12];
@@ -355,7 +249,7 @@ fn marks_cleared_past_the_count_loses_the_marks_behind() {
     };
     assert_eq!(looked(&RightRules), [1; 12]);
     assert_eq!(
-        looked(&MarksClearedPastTheCount),
+        looked(&MarksClearedPastTheUsed),
         [1, 1, 1, 1, 1, 1, 0, 0, 0, 0, 0, 0]
     );
 }
@@ -434,9 +328,9 @@ fn two_even_nodes_are_enough() {
     let after = |rules: &dyn Rules| {
         let [below, above] = EVEN_NODES;
         let mut kit = Kit::grown(rules, EVEN_BOX, &[below]);
-        let mesh = Loaded::load(kit.mesh, &kit.tables.lend());
+        let mesh = kit.loaded();
         let answer = |c| (float_sum(mesh.positions(c), above) > 0.0) as u8;
-        let answers: Vec<u8> = (0..mesh.cells.len()).map(answer).collect();
+        let answers: Vec<u8> = (0..mesh.entries.len()).map(answer).collect();
         kit.insert(rules, Answers::Given(&answers), above);
         kit
     };

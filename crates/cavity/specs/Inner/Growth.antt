@@ -8,7 +8,7 @@ use lib.Dec.{ltb, eqb}
 use lib.ListN.{length, getD}
 use lib.Ieee.{Float, lt}
 use Rattle.geometry.specs.declared.Position.{Position}
-use Rattle.mesh.specs.Tables.{Tables, none}
+use Rattle.mesh.specs.Tables.{Tables, none, IsCell}
 use Rattle.locate.specs.Locate.{holds}
 use Rattle.cavity.specs.declared.Answer.{Answer}
 use Rattle.cavity.specs.declared.Gathered.{Gathered}
@@ -35,19 +35,19 @@ pub record Lowest (T : ℕ → Float) (n : ℕ) (st : List ℕ) (g : Gathered) :
   pub first : (c : ℕ) → c < g .at → inside st c ≡ true → lt (T (g .at)) (T c) ≡ true
 
 -- the cells inside are listed, those of the base b have state 2, and their least T is known
-pub record Growing (T : ℕ → Float) (n : ℕ) (b : List Bool) (st li : List ℕ) (g : Gathered) : Type 0 where
-  pub list : Enumerated n st li (g .size)
+pub record Growing (t : Tables) (T : ℕ → Float) (n : ℕ) (b : List Bool) (st li : List ℕ) (g : Gathered) : Type 0 where
+  pub list : Enumerated t n st li (g .size)
   pub states : (c : ℕ) → c < n → inside st c ≡ true → getD st c 0 ≡ cond (inSet b c) 2 1
   pub lowest : 0 < g .size → Lowest T n st g
 
 -- just the base's cells below c are inside
 pub record Scanned (a : Answers) (t : Tables) (p : Position) (n c : ℕ) (st li : List ℕ) (g : Gathered) : Type 0 where
-  pub growing : Growing (reportT a t p) n (base t n p) st li g
+  pub growing : Growing t (reportT a t p) n (base t n p) st li g
   pub exactly : (k : ℕ) → k < n → inside st k ≡ (ltb k c && holds t p k)
 
 -- the base is inside, and with it only cells of the cavity at p
 pub record Reached (a : Answers) (t : Tables) (p : Position) (n : ℕ) (st li : List ℕ) (g : Gathered) : Type 0 where
-  pub growing : Growing (reportT a t p) n (base t n p) st li g
+  pub growing : Growing t (reportT a t p) n (base t n p) st li g
   pub based : (c : ℕ) → c < n → inSet (base t n p) c ≡ true → inside st c ≡ true
   pub sound : (c : ℕ) → c < n → inside st c ≡ true → inSet (cavityOf t n p (saysYes a t p)) c ≡ true
 
@@ -59,7 +59,7 @@ pub record Grew (n : ℕ) (st li : List ℕ) (size : ℕ) (st′ li′ : List �
 
 -- what lies across a face of the cavity: a cell, and of the cavity if its answer is yes
 abbrev pub Neighbour : Answers → Tables → Position → ℕ → ℕ → Type 0
-Neighbour a t p n d = d ≢ none → (d < n) × (saysYes a t p d ≡ true → inSet (cavityOf t n p (saysYes a t p)) d ≡ true)
+Neighbour a t p n d = d ≢ none → IsCell t n d × (saysYes a t p d ≡ true → inSet (cavityOf t n p (saysYes a t p)) d ≡ true)
 
 -- d is inside, unless it is none or its answer is no
 abbrev pub InsideIfYes : Answers → Tables → Position → List ℕ → ℕ → Type 0
@@ -71,12 +71,14 @@ pub record Empty (st li : List ℕ) : Type 0 where
   pub entries : length li ≡ 4096
   pub zero : (k : ℕ) → getD st k 0 ≡ 0
 
--- a byte for each cell, all 0
-pub record Blank (bytes : List ℕ) : Type 0 where
-  pub long : length bytes ≡ 4096
-  pub zero : (c : ℕ) → getD bytes c 0 ≡ 0
+-- a note for each entry, all below the stamp of the node that comes next
+pub record Unstamped (stamp : ℕ) (notes : List ℕ) : Type 0 where
+  pub long : length notes ≡ 4096
+  pub below : (c : ℕ) → getD notes c 0 < stamp
 
--- cells whose byte is not 0 have answered no
-pub record Denied (a : Answers) (t : Tables) (p : Position) (bytes : List ℕ) : Type 0 where
-  pub long : length bytes ≡ 4096
-  pub no : (c : ℕ) → getD bytes c 0 ≢ 0 → saysYes a t p c ≡ false
+-- Cells whose note is the stamp have answered no. No note is above it, so that with a greater stamp no cell has answered: the notes need
+-- no clearing between nodes.
+pub record Denied (a : Answers) (t : Tables) (p : Position) (stamp : ℕ) (notes : List ℕ) : Type 0 where
+  pub long : length notes ≡ 4096
+  pub no : (c : ℕ) → getD notes c 0 ≡ stamp → saysYes a t p c ≡ false
+  pub most : (c : ℕ) → getD notes c 0 ≤ stamp

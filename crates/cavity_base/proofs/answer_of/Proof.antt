@@ -26,7 +26,7 @@ answer-here c =
     read-answer (a .points .now) (a .corners .now) (a .neighbours .now) (a .c) (a .node .position))
 
 shared-slice-read-t14 : tie.Need-shared-slice-read-t14
-shared-slice-read-t14 c = let s = c .before .before .before .before .before .before in omega (arith, s .pre .1, s .pre .0 .answered (c .before .if1 .taken))
+shared-slice-read-t14 c = let s = c .before .before .before .before .before .before in omega (arith, s .pre .1 .below, s .pre .0 .answered (c .before .if1 .taken))
 
 returns : tie.Need-returns
 unfolding ofBits
@@ -35,7 +35,7 @@ returns c =
     answered-by-byte (tables (s .args .points .now) (s .args .corners .now) (s .args .neighbours .now)) (s .args .node .position) (s .args .c) (s .args .node .handed) (s .args .answers .now) (c .before .if1 .taken)
 
 four-at-requires : tie.Need-four-at-requires
-four-at-requires c κs = let s = c .before .before .before .before .before .before in has-corners (s .pre .0 .mesh) _ (s .pre .1)
+four-at-requires c κs = let s = c .before .before .before .before .before .before in has-corners (s .pre .0 .mesh) _ (s .pre .1 .below)
 
 positions-requires : tie.Need-positions-requires
 positions-requires c κs = corners-are c .has

@@ -5,7 +5,7 @@ use mathlib.Core.Logic.{⊎-elim}
 use mathlib.Core.Path.{_≡_, sym, _∙_}
 use native.Mathlib.Omega.{arith}
 use Rattle.mesh.specs.Tables.{tables}
-use Rattle.locate.proofs.Codes.{coded, ruled-out}
+use Rattle.locate.proofs.Codes.{codes-there, may-hold-cell, may-not-hold}
 use Rattle.cavity.specs.Answers.{answersOf}
 use Rattle.cavity.specs.Inner.Growth.{Scanned}
 use Rattle.mesh.proofs.Reading.{has-corners, solid, cells-few}
@@ -26,11 +26,14 @@ start c = c .before .before .before .before .before .before .before .before .bef
 four-at-requires : tie.Need-four-at-requires Inv-loop μ-loop
 four-at-requires c κs = let s = c .before .before .before .before .before .before .before .before .before in has-corners (s .pre .0 .mesh) _ (omega arith)
 
-shared-bits-requires : tie.Need-shared-bits-requires Inv-loop μ-loop
-shared-bits-requires c κs = let p = start c .pre in coded _ _ _ _ _ (solid (p .0 .mesh)) _ (omega arith) (p .1) (c .four-at .ensures) .code<
+may-hold-requires : tie.Need-may-hold-requires Inv-loop μ-loop
+may-hold-requires c κs = let p = start c .pre in codes-there _ _ _ _ _ (solid (p .0 .mesh)) _ (omega arith) (p .1) (c .four-at .ensures)
 
 try-base-requires : tie.Need-try-base-requires Inv-loop μ-loop
-try-base-requires c κs = let f = c .before .before .before .before in (start f .pre .0, omega arith, f .before .before .loop .inv .1)
+try-base-requires c κs =
+    let f = c .before .before .before .before in
+    let p = start f .pre in
+    (p .0, may-hold-cell _ _ _ _ _ (solid (p .0 .mesh)) _ (omega arith) (p .1) (f .four-at .ensures) _ (sym (c .before .before .before .may-hold .ensures) ∙ c .before .before .if1 .taken), f .before .before .loop .inv .1)
 
 add-c : tie.Need-add-c Inv-loop μ-loop
 add-c c = omega (arith, cells-few (start (c .before .before) .pre .0 .mesh))
@@ -38,7 +41,7 @@ add-c c = omega (arith, cells-few (start (c .before .before) .pre .0 .mesh))
 loop-less : tie.Need-loop-less Inv-loop μ-loop
 loop-less c = omega arith
 
--- a cell whose corners share a bit is passed over
+-- an entry that cannot hold the node is passed over
 loop-again : tie.Need-loop-again Inv-loop μ-loop
 loop-again c =
     let f = c .before .before in
@@ -48,7 +51,7 @@ loop-again c =
       ⊎-elim
           (λ w. scanned-same (w .8) (w .9) (w .10) (w .3 .ensures))
           (λ w. scanned-same (w .1) (w .2) (w .3) (scan-past (p .0 .mesh) _ (p .0 .position) (l .inv .1)
-          (ruled-out _ _ _ _ _ (solid (p .0 .mesh)) _ (omega arith) _ (p .1) (f .four-at .ensures) (λ z. w .0 .left (c .before .shared-bits .ensures ∙ z)))))
+          (may-not-hold _ _ _ _ _ (solid (p .0 .mesh)) _ (omega arith) (p .1) (f .four-at .ensures) _ (sym (c .before .may-hold .ensures) ∙ w .0 .left))))
           (c .if1 .came),
     )
 
@@ -61,7 +64,7 @@ same-length-2 c = c .before .loop .inv .1 .growing .list .entries ∙ sym (c .be
 returns : tie.Need-returns Inv-loop μ-loop
 returns c =
     let l = c .before .loop in
-    let e : l .c ≡ c .before .before .before .before .before .before .before .before .before .args .node .cells = omega arith in
+    let e : l .c ≡ c .before .before .before .before .before .before .before .before .before .args .node .used = omega arith in
     scan-ends e (l .inv .1)
 
 pub find-base-spec : {M : Type 1} → statement M
@@ -72,7 +75,7 @@ find-base-spec =
     μ-loop
     loop-holds
     four-at-requires
-    shared-bits-requires
+    may-hold-requires
     try-base-requires
     add-c
     loop-less

@@ -20,10 +20,10 @@ tested : (c : tie.After-cell-holds) → let a = start (c .before) .args in
     c .cell-holds .result ≡ holds (tables (a .points .now) (a .corners .now) (a .neighbours .now)) (a .node .position) (a .c)
 tested c =
     let a = start (c .before) .args in
-    c .cell-holds .ensures ∙ holds-is (a .points .now) (a .corners .now) (a .neighbours .now) (a .c) (a .node .position) (c .before .four-at .ensures)
+    c .cell-holds .ensures ∙ holds-is (a .points .now) (a .corners .now) (a .neighbours .now) (a .c) (a .node .position) (start (c .before) .pre .1 .lives) (c .before .four-at .ensures)
 
 four-at-requires : tie.Need-four-at-requires
-four-at-requires c κs = let s = c .before .before .before .before .before .before .before in has-corners (s .pre .0 .mesh) _ (s .pre .1)
+four-at-requires c κs = let s = c .before .before .before .before .before .before .before in has-corners (s .pre .0 .mesh) _ (s .pre .1 .below)
 
 cell-holds-requires : tie.Need-cell-holds-requires
 cell-holds-requires c κs = let p = start c .pre in (subst (Cornered _) (sym (c .four-at .ensures)) (cornered (p .0 .mesh) _ (p .1)), p .0 .position)
@@ -41,8 +41,9 @@ join-requires c κs =
     let s = start (c .before .before .before .before .before) in
     let g = s .pre .2 .growing in
     let n = cells-few (s .pre .0 .mesh) in
-    let z = size< g n _ (s .pre .1) (not-yet (s .pre .0 .mesh) _ (s .pre .0 .position) (s .pre .2) (s .pre .1)) in
-    (omega (arith, z, n), omega (arith, z, n, g .list .entries), omega (arith, n, s .pre .1), omega (arith, n, s .pre .1, g .list .states))
+    let b = s .pre .1 .below in
+    let z = size< g n _ b (s .pre .1 .lives) (not-yet (s .pre .0 .mesh) _ (s .pre .0 .position) (s .pre .2) b) in
+    (omega (arith, z, n), omega (arith, z, n, g .list .entries), omega (arith, n, b), omega (arith, n, b, g .list .states))
 
 same-length : tie.Need-same-length
 same-length c = search needs
@@ -56,7 +57,7 @@ returns-2 c =
     let a = j .before .before .before in
     let h = a .before .before in
     let s = start (h .before) in
-    scan-join (s .pre .0 .mesh) _ (s .pre .0 .position) (s .pre .2) (s .pre .1) (test-passed (tested h) (a .before .if1 .left))
+    scan-join (s .pre .0 .mesh) _ (s .pre .0 .position) (s .pre .2) (s .pre .1 .below) (test-passed (tested h) (a .before .if1 .left))
     (answer-t _ _ _ _ (a .answer-of .ensures)) (j .join .ensures .0) (j .join .ensures .1) (j .join .ensures .2)
 
 pub try-base-spec : {M : Type 1} → statement M

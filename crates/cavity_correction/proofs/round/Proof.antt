@@ -1,18 +1,16 @@
 use borrow.Author.Needs.{needs}
 use Rattle.cavity_correction.proofs.round.Statement.{statement}
 use Rattle.cavity_correction.proofs.round.Tie as tie
-use mathlib.Core.Path.{refl}
-use Rattle.arith.proofs.Tables.{zeros-at}
-use Rattle.cavity.proofs.Rounds.{inspected-none, inspected}
+use native.Mathlib.Omega.{arith}
+use Rattle.cavity.proofs.Rounds.{corners-listed, none-exposed-in, inspected-none, inspected}
 
-slice-aggregate-inspect-all : tie.Need-slice-aggregate-inspect-all
-slice-aggregate-inspect-all c = search needs
+hide-corners-requires : tie.Need-hide-corners-requires
+hide-corners-requires c κs = let p = c .before .before .before .before .before .before .before .before .before .pre in (corners-listed (p .0) (p .2 .list) (omega arith), p .4)
 
 inspect-all-requires : tie.Need-inspect-all-requires
-inspect-all-requires c κs = let s = c .before .before .before .before .before .before .before .before .before .before in (s .pre .0, s .pre .1, s .pre .2 .list, inspected-none _ _ _ _ _ (s .pre .3) refl (zeros-at 1024))
-
-slice-aggregate-prune : tie.Need-slice-aggregate-prune
-slice-aggregate-prune c = search needs
+inspect-all-requires c κs =
+    let p = c .before .before .before .before .before .before .before .before .before .before .before .before .before .before .before .before .pre in
+    (p .0, p .1, p .2 .list, inspected-none _ _ _ _ _ _ (p .3) (none-exposed-in _ _ _ _ _ (c .before .before .before .before .before .before .hide-corners .ensures)))
 
 prune-requires : tie.Need-prune-requires
 prune-requires c κs = search needs
@@ -26,21 +24,24 @@ same-length-2 c = search needs
 same-length-3 : tie.Need-same-length-3
 same-length-3 c = search needs
 
+same-length-4 : tie.Need-same-length-4
+same-length-4 c = search needs
+
 returns : tie.Need-returns
 returns c =
-    let s = c .before .before .before .before .before .before .before .before .before .before .before .before .before .before .before .before .before .before .before .before .before .before .before in
-    let i = c .before .before .before .before .before .before .before .before .before .before .before .before .inspect-all .ensures in
-    (c .before .before .before .before .prune .ensures, i .codes, inspected (s .pre .0) _ (s .pre .2 .list) i)
+    let p = c .before .before .before .before .before .before .before .before .before .before .before .before .before .before .before .before .before .before .before .before .before .before .before .before .before .before .before .before .before .before .pre in
+    let i = c .before .before .before .before .before .before .before .before .before .before .before .before .before .inspect-all .ensures in
+    (c .before .before .before .before .prune .ensures, i .codes, i .marks, inspected (p .0) _ (p .2 .list) i)
 
 pub round-spec : {M : Type 1} → statement M
 round-spec =
     tie.close
     (tie.spec
-    slice-aggregate-inspect-all
+    hide-corners-requires
     inspect-all-requires
-    slice-aggregate-prune
     prune-requires
     same-length
     same-length-2
     same-length-3
+    same-length-4
     returns)

@@ -24,7 +24,7 @@ link : (c : tie.After-load) (i : ℕ) → i < 4 → getD (c .load .result .neigh
 link c i l real = subst (λ m. getD (c .load .result .neighbours) i 0 < m) (sym (start c .pre .2)) (loaded-link (start c .pre .0) (start c .pre .3) (c .load .ensures) i l real)
 
 load-requires : tie.Need-load-requires
-load-requires c κs = let s = c .before .before .before .before .before in (has-corners (s .pre .0) _ (s .pre .3), has-neighbours (s .pre .0) _ (s .pre .3))
+load-requires c κs = let s = c .before .before .before .before .before in (has-corners (s .pre .0) _ (s .pre .3 .below), has-neighbours (s .pre .0) _ (s .pre .3 .below))
 
 positions-requires : tie.Need-positions-requires
 positions-requires c κs = corners-are (c .before .before) .has

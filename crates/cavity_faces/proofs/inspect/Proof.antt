@@ -15,10 +15,10 @@ code-of-requires : tie.Need-code-of-requires
 code-of-requires c κs = kinds≤ _ _ _ _ (c .face-kinds .ensures)
 
 slice-write-faces : tie.Need-slice-write-faces
-slice-write-faces c = let s = c .before .before .before .before .before .before .before .before in omega (arith, s .pre .3, s .pre .4, cells-few (s .pre .0))
+slice-write-faces c = let s = c .before .before .before .before .before .before .before .before in omega (arith, s .pre .3 .below, s .pre .4, cells-few (s .pre .0))
 
 four-at-requires : tie.Need-four-at-requires
-four-at-requires c κs = let s = c .before .before .before .before .before .before .before .before .before in has-corners (s .pre .0) _ (s .pre .3)
+four-at-requires c κs = let s = c .before .before .before .before .before .before .before .before .before in has-corners (s .pre .0) _ (s .pre .3 .below)
 
 mark-faces-requires : tie.Need-mark-faces-requires
 mark-faces-requires c κs j l =

@@ -6,11 +6,11 @@ use native.Mathlib.Omega.{arith}
 use Rattle.mesh.specs.Tables.{tables}
 use Rattle.cavity.specs.Inner.Correction.{InspectedTo}
 use Rattle.mesh.proofs.Reading.{cells-few}
-use Rattle.cavity.proofs.Gathering.{size≤}
+use Rattle.cavity.proofs.Gathering.{size≤, listed-cell}
 use Rattle.cavity.proofs.Rounds.{inspected-more, inspected-ends}
 
 abbrev Inv-loop : tie.InvT-loop
-Inv-loop points corners neighbours node state list size faces₀ exposed₀ h₀ faces exposed h = (h ≤ size) × InspectedTo (tables points corners neighbours) (node .cells) (node .position) state list h faces exposed
+Inv-loop points corners neighbours node state list size faces₀ exposed₀ h₀ faces exposed h = (h ≤ size) × InspectedTo (tables points corners neighbours) (node .used) (node .position) state list size h faces exposed
 
 abbrev μ-loop : tie.MeasureT-loop
 μ-loop points corners neighbours node state list size faces₀ exposed₀ h₀ faces exposed h = size - h
@@ -31,7 +31,7 @@ inspect-requires : tie.Need-inspect-requires Inv-loop μ-loop
 inspect-requires c κs =
     let s = c .before .before .before .before .before .before .before .before .before .before .before .before in
     let l = c .before .before .before .before .loop in
-    (s .pre .0, s .pre .1, s .pre .2 .states, s .pre .2 .below (l .h) (omega arith), l .inv .1 .codes, l .inv .1 .marks)
+    (s .pre .0, s .pre .1, s .pre .2 .states, listed-cell (s .pre .2) (l .h) (omega arith), l .inv .1 .codes, l .inv .1 .marks)
 
 add-h : tie.Need-add-h Inv-loop μ-loop
 add-h c = let s = c .before .before .before .before .before .before .before .before .before .before .before .before .before .before .before .before .before in omega (arith, size≤ (s .pre .2), cells-few (s .pre .0))

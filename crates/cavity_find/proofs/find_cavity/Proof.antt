@@ -1,7 +1,9 @@
 use borrow.Author.Needs.{needs}
 use Rattle.cavity_find.proofs.find_cavity.Statement.{statement}
 use Rattle.cavity_find.proofs.find_cavity.Tie as tie
-use Rattle.cavity.proofs.Gathering.{blank-denied}
+use mathlib.Core.Path.{sym, _∙_}
+use native.Mathlib.Omega.{arith}
+use Rattle.cavity.proofs.Gathering.{none-denied, denied-unstamped, unstamped-later}
 use Rattle.cavity.proofs.Visiting.{scanned-reached}
 use Rattle.cavity.proofs.Removal.{found-none, grown-correctable, found-cavity}
 
@@ -16,23 +18,26 @@ same-length-2 c = search needs
 
 returns : tie.Need-returns
 returns c =
-    let s = c .before .before .before .before .before .before .before .before .before .before .before .before .before .before .before .before .before in
-    found-none (s .pre .0 .mesh) _ (s .pre .0 .position) (c .before .before .before .before .before .before .find-base .ensures) _ (s .pre .3 .long) (c .if1 .taken)
+    let p = c .before .before .before .before .before .before .before .before .before .before .before .before .before .before .before .before .before .before .before .pre in (
+      found-none (p .0 .mesh) _ (p .0 .position) (c .before .before .before .before .before .before .find-base .ensures) _ (p .4) (c .if1 .taken),
+      unstamped-later (p .3) (omega arith),
+      p .5,
+    )
 
 grow-requires : tie.Need-grow-requires
 grow-requires c κs =
-    let s = c .before .before .before .before .before .before .before .before .before .before .before .before .before .before .before .before .before .before .before .before in
-    (s .pre .0, scanned-reached (s .pre .0 .mesh) _ (s .pre .0 .position) (c .before .before .before .before .before .before .before .before .before .find-base .ensures), blank-denied _ _ _ (s .pre .3))
+    let p = c .before .before .before .before .before .before .before .before .before .before .before .before .before .before .before .before .before .before .before .before .before .before .pre in
+    (p .0, scanned-reached (p .0 .mesh) _ (p .0 .position) (c .before .before .before .before .before .before .before .before .before .find-base .ensures), none-denied _ _ _ (p .3))
 
 correct-requires : tie.Need-correct-requires
 correct-requires c κs =
-    let s = c .before .before .before .before .before .before .before .before .before .before .before .before .before .before .before .before .before .before .before .before .before .before .before .before .before .before .before .before .before .before in
-    let g = c .before .before .before .before .before .before .before .before .before .grow .ensures in
-    let b = c .before .before .before .before .before .before .before .before .before .before .before .before .before .before .before .before .before .before .before .find-base .ensures in
-    (s .pre .0 .mesh, s .pre .0 .position, grown-correctable (s .pre .0 .mesh) _ (s .pre .0 .position) b (c .before .before .before .before .before .before .before .before .before .before .before .before .before .if1 .left) (g .0) (g .1), g .2 .long)
+    let p = c .before .before .before .before .before .before .before .before .before .before .before .before .before .before .before .before .before .before .before .before .before .before .before .before .before .before .before .before .before .before .before .before .before .pre in
+    let g = c .before .before .before .before .before .before .before .before .before .before .grow .ensures in
+    let b = c .before .before .before .before .before .before .before .before .before .before .before .before .before .before .before .before .before .before .before .before .find-base .ensures in
+    (p .0 .mesh, p .0 .position, grown-correctable (p .0 .mesh) _ (p .0 .position) b (c .before .before .before .before .before .before .before .before .before .before .before .before .before .before .if1 .left) (g .0) (g .1), p .4, p .5)
 
 same-length-3 : tie.Need-same-length-3
-same-length-3 c = search needs
+same-length-3 c = c .before .before .before .before .before .before .before .before .correct .ensures .0 .states ∙ sym (c .before .before .before .before .before .before .before .before .before .before .before .before .before .before .before .before .before .before .before .before .before .before .before .before .before .before .before .before .before .before .before .before .before .before .before .before .before .before .before .before .before .before .pre .2 .states)
 
 same-length-4 : tie.Need-same-length-4
 same-length-4 c = search needs
@@ -40,13 +45,22 @@ same-length-4 c = search needs
 same-length-5 : tie.Need-same-length-5
 same-length-5 c = search needs
 
+same-length-6 : tie.Need-same-length-6
+same-length-6 c = search needs
+
+same-length-7 : tie.Need-same-length-7
+same-length-7 c = search needs
+
 returns-2 : tie.Need-returns-2
 returns-2 c =
-    let s = c .before .before .before .before .before .before .before .before .before .before .before .before .before .before .before .before .before .before .before .before .before .before .before .before .before .before .before .before .before .before .before .before .before .before .before .before .before in
-    let b = c .before .before .before .before .before .before .before .before .before .before .before .before .before .before .before .before .before .before .before .before .before .before .before .before .before .before .find-base .ensures in
-    let g = c .before .before .before .before .before .before .before .before .before .before .before .before .before .before .before .before .grow .ensures in
-    let r = c .before .before .before .before .before .before .correct .ensures in
-    found-cavity (s .pre .0 .mesh) _ (s .pre .0 .position) b (c .before .before .before .before .before .before .before .before .before .before .before .before .before .before .before .before .before .before .before .before .if1 .left) (g .0) (g .1) (r .0) (r .1) (r .2) (r .3)
+    let p = c .before .before .before .before .before .before .before .before .before .before .before .before .before .before .before .before .before .before .before .before .before .before .before .before .before .before .before .before .before .before .before .before .before .before .before .before .before .before .before .before .before .before .pre in
+    let b = c .before .before .before .before .before .before .before .before .before .before .before .before .before .before .before .before .before .before .before .before .before .before .before .before .before .before .before .before .before .find-base .ensures in
+    let g = c .before .before .before .before .before .before .before .before .before .before .before .before .before .before .before .before .before .before .before .grow .ensures in
+    let r = c .before .before .before .before .before .before .before .before .correct .ensures in (
+      found-cavity (p .0 .mesh) _ (p .0 .position) b (c .before .before .before .before .before .before .before .before .before .before .before .before .before .before .before .before .before .before .before .before .before .before .before .if1 .left) (g .0) (g .1) (r .0) (r .1) (r .3) (r .4),
+      denied-unstamped (g .2) (omega arith),
+      r .2,
+    )
 
 pub find-cavity-spec : {M : Type 1} → statement M
 find-cavity-spec =
@@ -61,4 +75,6 @@ find-cavity-spec =
     same-length-3
     same-length-4
     same-length-5
+    same-length-6
+    same-length-7
     returns-2)

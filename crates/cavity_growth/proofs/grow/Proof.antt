@@ -13,12 +13,12 @@ use Rattle.cavity.proofs.Visiting.{four-neighbours, closed-more, grown-cavity}
 
 abbrev Inv-loop : tie.InvT-loop
 Inv-loop points corners neighbours answers node denied₀ state₀ list₀ g₀ h₀ denied state list g h =
-    (h ≤ g .size) × Reached (answersOf (node .handed) answers) (tables points corners neighbours) (node .position) (node .cells) state list g
+    (h ≤ g .size) × Reached (answersOf (node .handed) answers) (tables points corners neighbours) (node .position) (node .used) state list g
     × ((k : ℕ) → k < h → (j : ℕ) → j < 4 → InsideIfYes (answersOf (node .handed) answers) (tables points corners neighbours) (node .position) state (across (tables points corners neighbours) (4 * getD list k 0 + j)))
-    × Denied (answersOf (node .handed) answers) (tables points corners neighbours) (node .position) denied
+    × Denied (answersOf (node .handed) answers) (tables points corners neighbours) (node .position) (node .points) denied
 
 abbrev μ-loop : tie.MeasureT-loop
-μ-loop points corners neighbours answers node denied₀ state₀ list₀ g₀ h₀ denied state list g h = node .cells - h
+μ-loop points corners neighbours answers node denied₀ state₀ list₀ g₀ h₀ denied state list g h = node .used - h
 
 loop-holds : tie.Need-loop-holds Inv-loop μ-loop
 loop-holds c = let s = c .before .before .before .before .before .before .before in (omega arith, s .pre .1, (λ k l. absurd (omega arith)), s .pre .2)

@@ -14,8 +14,8 @@ abbrev Inv-loop : tie.InvT-loop
 Inv-loop points corners neighbours answers node denied₀ state₀ list₀ u g₀ j₀ denied state list g j =
     let a = answersOf (node .handed) answers in
     let t = tables points corners neighbours in
-    (j ≤ 4) × Reached a t (node .position) (node .cells) state list g × Grew (node .cells) state₀ list₀ (g₀ .size) state list (g .size)
-    × ((i : ℕ) → i < j → InsideIfYes a t (node .position) state (getD u i 0)) × Denied a t (node .position) denied
+    (j ≤ 4) × Reached a t (node .position) (node .used) state list g × Grew (node .used) state₀ list₀ (g₀ .size) state list (g .size)
+    × ((i : ℕ) → i < j → InsideIfYes a t (node .position) state (getD u i 0)) × Denied a t (node .position) (node .points) denied
 
 abbrev μ-loop : tie.MeasureT-loop
 μ-loop points corners neighbours answers node denied₀ state₀ list₀ u g₀ j₀ denied state list g j = 4 - j

@@ -1,34 +1,59 @@
-use Prim.Native.Nat.{_-_, _≤_}
+use Prim.Native.Nat.{ℕ, _-_, _≤_}
 use mathlib.Core.Bool.{true≢false}
-use mathlib.Core.Path.{refl, sym, _∙_}
+use mathlib.Core.Path.{_≡_, refl, sym, _∙_}
 use native.Mathlib.Omega.{arith}
+use lib.ListN.{length, length-replicate}
 use borrow.Author.Needs.{needs}
 use Rattle.mesh.specs.Tables.{tables}
-use Rattle.insertion.proofs.Leaving.{Inserting, none-yet, place<, one-more, stops-here, ends-here, node-read}
+use Rattle.insertion.specs.Inner.{Scratch}
+use Rattle.insertion.proofs.Acceptance.{fresh}
+use Rattle.insertion.proofs.Leaving.{Inserting, none-yet, place<, one-more, scratch-next, stops-here, ends-here, node-read}
 use Rattle.insertion_list.proofs.insert_nodes.Statement.{statement}
 use Rattle.insertion_list.proofs.insert_nodes.Tie as tie
 
 abbrev Inv-loop : tie.InvT-loop
-Inv-loop points₀ corners₀ neighbours₀ work nodes none count now₀ i₀ points corners neighbours now i =
+Inv-loop points₀ corners₀ neighbours₀ work nodes none state₀ list₀ faces₀ denied₀ exposed₀ ranks₀ slots₀ count now₀ i₀ points corners neighbours state list faces denied exposed ranks slots now i =
     (i ≤ count) × Inserting now₀ (tables points₀ corners₀ neighbours₀) work nodes now (tables points corners neighbours) i
+    × Scratch (now .points) state list faces denied exposed ranks × (length slots ≡ 4096)
 
 abbrev μ-loop : tie.MeasureT-loop
-μ-loop points₀ corners₀ neighbours₀ work nodes none count now₀ i₀ points corners neighbours now i = count - i
+μ-loop points₀ corners₀ neighbours₀ work nodes none state₀ list₀ faces₀ denied₀ exposed₀ ranks₀ slots₀ count now₀ i₀ points corners neighbours state list faces denied exposed ranks slots now i = count - i
 
 loop-holds : tie.Need-loop-holds Inv-loop μ-loop
-loop-holds c = (omega arith, none-yet _ _ _ _ (c .before .before .before .before .pre))
+loop-holds c = let p = c .before .before .before .before .pre in (omega arith, none-yet _ _ _ _ p, fresh _ _ _ p, length-replicate {A = ℕ} 4096 0)
 
-slice-aggregate-insert-node : tie.Need-slice-aggregate-insert-node Inv-loop μ-loop
-slice-aggregate-insert-node c = refl
+slice-aggregate-attempt-node : tie.Need-slice-aggregate-attempt-node Inv-loop μ-loop
+slice-aggregate-attempt-node c = refl
 
-slice-aggregate-insert-node-2 : tie.Need-slice-aggregate-insert-node-2 Inv-loop μ-loop
-slice-aggregate-insert-node-2 c = refl
+slice-aggregate-attempt-node-2 : tie.Need-slice-aggregate-attempt-node-2 Inv-loop μ-loop
+slice-aggregate-attempt-node-2 c = refl
 
 point-at-requires : tie.Need-point-at-requires Inv-loop μ-loop
 point-at-requires c κs = record { fits = omega arith }
 
-insert-node-requires : tie.Need-insert-node-requires Inv-loop μ-loop
-insert-node-requires c κs = (c .before .before .before .before .before .before .before .loop .inv .1 .mesh, λ e. absurd (true≢false (sym e)))
+slice-aggregate-attempt-node-3 : tie.Need-slice-aggregate-attempt-node-3 Inv-loop μ-loop
+slice-aggregate-attempt-node-3 c = sym (c .before .before .before .before .before .before .before .before .loop .inv .2 .empty .states)
+
+slice-aggregate-attempt-node-4 : tie.Need-slice-aggregate-attempt-node-4 Inv-loop μ-loop
+slice-aggregate-attempt-node-4 c = sym (c .before .before .before .before .before .before .before .before .before .loop .inv .2 .empty .entries)
+
+slice-aggregate-attempt-node-5 : tie.Need-slice-aggregate-attempt-node-5 Inv-loop μ-loop
+slice-aggregate-attempt-node-5 c = sym (c .before .before .before .before .before .before .before .before .before .before .loop .inv .2 .codes)
+
+slice-aggregate-attempt-node-6 : tie.Need-slice-aggregate-attempt-node-6 Inv-loop μ-loop
+slice-aggregate-attempt-node-6 c = sym (c .before .before .before .before .before .before .before .before .before .before .before .loop .inv .2 .notes .long)
+
+slice-aggregate-attempt-node-7 : tie.Need-slice-aggregate-attempt-node-7 Inv-loop μ-loop
+slice-aggregate-attempt-node-7 c = sym (c .before .before .before .before .before .before .before .before .before .before .before .before .loop .inv .2 .exposed)
+
+slice-aggregate-attempt-node-8 : tie.Need-slice-aggregate-attempt-node-8 Inv-loop μ-loop
+slice-aggregate-attempt-node-8 c = sym (c .before .before .before .before .before .before .before .before .before .before .before .before .before .loop .inv .2 .ranks)
+
+slice-aggregate-attempt-node-9 : tie.Need-slice-aggregate-attempt-node-9 Inv-loop μ-loop
+slice-aggregate-attempt-node-9 c = sym (c .before .before .before .before .before .before .before .before .before .before .before .before .before .before .loop .inv .3)
+
+attempt-node-requires : tie.Need-attempt-node-requires Inv-loop μ-loop
+attempt-node-requires c κs = let v = c .before .before .before .before .before .before .before .before .before .before .before .before .before .before .loop .inv in (v .1 .mesh, (λ e. absurd (true≢false (sym e))), v .2, v .3)
 
 enum-known-answer : tie.Need-enum-known-answer Inv-loop μ-loop
 enum-known-answer c = search needs
@@ -36,32 +61,43 @@ enum-known-answer c = search needs
 enum-told : tie.Need-enum-told Inv-loop μ-loop
 enum-told c = search needs
 
-cast-t27 : tie.Need-cast-t27 Inv-loop μ-loop
-cast-t27 c = omega (arith, place< (c .before .before .before .before .before .before .before .before .before .before .before .before .before .before .before .before .loop .inv .1))
+cast-t48 : tie.Need-cast-t48 Inv-loop μ-loop
+cast-t48 c = omega (arith, place< (c .before .before .before .before .before .before .before .before .before .before .before .before .before .before .before .before .before .before .before .before .before .before .before .before .before .before .before .before .before .before .loop .inv .1))
 
 same-length : tie.Need-same-length Inv-loop μ-loop
-same-length c = c .before .before .before .before .before .before .before .before .insert-node .kept .1 .0 ∙ c .before .before .before .before .before .before .before .before .before .before .before .before .before .before .before .before .loop .inv .1 .points-long
+same-length c = c .before .before .before .before .before .before .before .before .before .before .before .before .before .before .before .attempt-node .kept .1 .0 ∙ c .before .before .before .before .before .before .before .before .before .before .before .before .before .before .before .before .before .before .before .before .before .before .before .before .before .before .before .before .before .before .loop .inv .1 .points-long
 
 same-length-2 : tie.Need-same-length-2 Inv-loop μ-loop
-same-length-2 c = c .before .before .before .before .before .before .before .before .insert-node .kept .1 .1 .0 ∙ c .before .before .before .before .before .before .before .before .before .before .before .before .before .before .before .before .loop .inv .1 .corners-long
+same-length-2 c = c .before .before .before .before .before .before .before .before .before .before .before .before .before .before .before .attempt-node .kept .1 .1 .0 ∙ c .before .before .before .before .before .before .before .before .before .before .before .before .before .before .before .before .before .before .before .before .before .before .before .before .before .before .before .before .before .before .loop .inv .1 .corners-long
 
 same-length-3 : tie.Need-same-length-3 Inv-loop μ-loop
-same-length-3 c = c .before .before .before .before .before .before .before .before .insert-node .kept .1 .1 .1 .0 ∙ c .before .before .before .before .before .before .before .before .before .before .before .before .before .before .before .before .loop .inv .1 .neighbours-long
+same-length-3 c = c .before .before .before .before .before .before .before .before .before .before .before .before .before .before .before .attempt-node .kept .1 .1 .1 .0 ∙ c .before .before .before .before .before .before .before .before .before .before .before .before .before .before .before .before .before .before .before .before .before .before .before .before .before .before .before .before .before .before .loop .inv .1 .neighbours-long
 
 returns : tie.Need-returns Inv-loop μ-loop
-returns c = stops-here (c .before .before .before .before .before .before .before .before .before .before .before .before .before .before .before .before .loop .inv .1) (omega arith) (node-read (c .before .before .before .before .before .before .before .before .before .point-at .ensures) (c .before .before .before .before .before .before .before .before .insert-node .ensures)) (c .enum-told .given .1)
+returns c =
+    let a = c .before .before .before .before .before .before .before .before .before .before .before .before .before .before .before in
+    stops-here (c .before .before .before .before .before .before .before .before .before .before .before .before .before .before .before .before .before .before .before .before .before .before .before .before .before .before .before .before .before .before .loop .inv .1) (omega (arith, c .before .before .before .before .before .before .before .before .before .before .before .before .before .before .before .before .before .before .before .before .before .before .before .before .before .before .before .before .before .loop-test .taken)) (node-read (c .before .before .before .before .before .before .before .before .before .before .before .before .before .before .before .before .before .before .before .before .before .before .before .point-at .ensures) (a .attempt-node .ensures .0)) (c .enum-told .given .1)
 
 add-i : tie.Need-add-i Inv-loop μ-loop
-add-i c = omega (arith, place< (c .before .before .before .before .before .before .before .before .before .before .before .before .before .before .before .before .before .loop .inv .1))
+add-i c = omega (arith, place< (c .before .before .before .before .before .before .before .before .before .before .before .before .before .before .before .before .before .before .before .before .before .before .before .before .before .before .before .before .before .before .before .loop .inv .1))
 
 loop-less : tie.Need-loop-less Inv-loop μ-loop
-loop-less c = omega arith
+loop-less c = omega (arith, c .before .before .before .before .before .before .before .before .before .before .before .before .before .before .before .before .before .before .before .before .before .before .before .before .before .before .before .before .before .before .loop-test .taken)
 
 loop-again : tie.Need-loop-again Inv-loop μ-loop
-loop-again c = (omega arith, one-more (c .before .before .before .before .before .before .before .before .before .before .before .before .before .before .before .before .before .loop .inv .1) (omega arith) (node-read (c .before .before .before .before .before .before .before .before .before .before .point-at .ensures) (c .before .before .before .before .before .before .before .before .before .insert-node .ensures)) (c .before .answer .given .1) (c .before .before .before .before .before .before .before .before .before .insert-node .kept .1 .0) (c .before .before .before .before .before .before .before .before .before .insert-node .kept .1 .1 .0) (c .before .before .before .before .before .before .before .before .before .insert-node .kept .1 .1 .1 .0))
+loop-again c =
+    let more = c .before .before .before .before .before .before .before .before .before .before .before .before .before .before .before .before .before .before .before .before .before .before .before .before .before .before .before .before .before .before .loop-test .taken in
+    let v = c .before .before .before .before .before .before .before .before .before .before .before .before .before .before .before .before .before .before .before .before .before .before .before .before .before .before .before .before .before .before .before .loop .inv in
+    let a = c .before .before .before .before .before .before .before .before .before .before .before .before .before .before .before .before .attempt-node in
+    let L = node-read (c .before .before .before .before .before .before .before .before .before .before .before .before .before .before .before .before .before .before .before .before .before .before .before .before .point-at .ensures) (a .ensures .0) in (
+      omega (arith, more),
+      one-more (v .1) (omega (arith, more)) L (c .before .answer .given .1) (a .kept .1 .0) (a .kept .1 .1 .0) (a .kept .1 .1 .1 .0),
+      scratch-next (v .1) L (c .before .answer .given .1) (a .ensures .1),
+      a .kept .1 .1 .1 .1 .1 .1 .1 .1 .1 .1 .1 .1 .1 .1 .1 .1 .0 ∙ v .3,
+    )
 
-cast-t28 : tie.Need-cast-t28 Inv-loop μ-loop
-cast-t28 c = omega (arith, place< (c .before .loop .inv .1))
+cast-t49 : tie.Need-cast-t49 Inv-loop μ-loop
+cast-t49 c = omega (arith, place< (c .before .loop .inv .1))
 
 same-length-4 : tie.Need-same-length-4 Inv-loop μ-loop
 same-length-4 c = c .before .loop .inv .1 .points-long
@@ -82,13 +118,20 @@ insert-nodes-spec =
     Inv-loop
     μ-loop
     loop-holds
-    slice-aggregate-insert-node
-    slice-aggregate-insert-node-2
+    slice-aggregate-attempt-node
+    slice-aggregate-attempt-node-2
     point-at-requires
-    insert-node-requires
+    slice-aggregate-attempt-node-3
+    slice-aggregate-attempt-node-4
+    slice-aggregate-attempt-node-5
+    slice-aggregate-attempt-node-6
+    slice-aggregate-attempt-node-7
+    slice-aggregate-attempt-node-8
+    slice-aggregate-attempt-node-9
+    attempt-node-requires
     enum-known-answer
     enum-told
-    cast-t27
+    cast-t48
     same-length
     same-length-2
     same-length-3
@@ -96,7 +139,7 @@ insert-nodes-spec =
     add-i
     loop-less
     loop-again
-    cast-t28
+    cast-t49
     same-length-4
     same-length-5
     same-length-6

@@ -2,23 +2,23 @@ use borrow.Author.Needs.{needs}
 use mathlib.Core.Bool.{true≢false}
 use mathlib.Core.Path.{refl, sym}
 use native.Mathlib.Omega.{arith}
-use lib.ListN.{length-replicate, getD-replicate}
-use Rattle.arith.proofs.Tables.{zeros-at}
-use Rattle.mesh.specs.Tables.{none}
-use Rattle.insertion.proofs.Acceptance.{states-long, report-asks}
+use Rattle.insertion.proofs.Acceptance.{states-long, report-asks, fresh}
 use Rattle.insertion.proofs.Looking.{looked-refused, looked-short, looked-reported}
 use Rattle.insertion_look.proofs.look_node.Statement.{statement}
 use Rattle.insertion_look.proofs.look_node.Tie as tie
 
 -- where find has answered, from where its refusal was tested
 abbrev found-at : tie.Else1 → tie.After-find
-found-at c = c .before .before .before .before .before
+found-at c = c .before .before .before .before .before .before .before
 
 cast-if2 : tie.Need-cast-if2
 cast-if2 c = search needs
 
-cast-t18 : tie.Need-cast-t18
-cast-t18 c = search needs
+cast-t20 : tie.Need-cast-t20
+cast-t20 c = search needs
+
+cast-t21 : tie.Need-cast-t21
+cast-t21 c = search needs
 
 slice-aggregate-find : tie.Need-slice-aggregate-find
 slice-aggregate-find c = search needs
@@ -35,16 +35,19 @@ slice-aggregate-find-4 c = search needs
 slice-aggregate-find-5 : tie.Need-slice-aggregate-find-5
 slice-aggregate-find-5 c = search needs
 
+slice-aggregate-find-6 : tie.Need-slice-aggregate-find-6
+slice-aggregate-find-6 c = search needs
+
+slice-aggregate-find-7 : tie.Need-slice-aggregate-find-7
+slice-aggregate-find-7 c = search needs
+
 find-requires : tie.Need-find-requires
-find-requires c κs = (
-  record { mesh = c .before .before .before .before .before .before .before .before .before .before .before .pre; points-are = refl; cells-are = refl; answered = λ h. absurd (true≢false (sym h)) },
-  record { states = refl; entries = refl; zero = zeros-at 4096 },
-  record { long = refl; zero = zeros-at 4096 },
-  record { long = length-replicate 8192 none; last = getD-replicate 8192 8191 none 0 (omega arith) },
-)
+find-requires c κs =
+    let p = c .before .before .before .before .before .before .before .before .before .before .before .before .before .before .pre in
+    (record { mesh = p; points-are = refl; cells-are = refl; used-are = refl; answered = λ h. absurd (true≢false (sym h)) }, fresh _ _ _ p)
 
 returns : tie.Need-returns
-returns c = looked-refused (c .before .before .before .before .before .find .ensures) refl _ (c .if1 .taken)
+returns c = looked-refused (c .before .before .before .before .before .before .before .find .ensures) refl _ (c .if1 .taken)
 
 returns-2 : tie.Need-returns-2
 returns-2 c = let e = c .before .before in looked-short (found-at e .find .ensures .starable (e .if1 .left)) refl _ (omega (arith, c .if2 .taken))
@@ -77,12 +80,15 @@ look-node-spec =
     tie.close
     (tie.spec
     cast-if2
-    cast-t18
+    cast-t20
+    cast-t21
     slice-aggregate-find
     slice-aggregate-find-2
     slice-aggregate-find-3
     slice-aggregate-find-4
     slice-aggregate-find-5
+    slice-aggregate-find-6
+    slice-aggregate-find-7
     find-requires
     returns
     returns-2

@@ -9,14 +9,17 @@ cast-after c = search needs
 cast-made : tie.Need-cast-made
 cast-made c = search needs
 
-add-t6 : tie.Need-add-t6
-add-t6 c = search needs
-
-sub-t7 : tie.Need-sub-t7
-sub-t7 c = search needs
-
 add-t8 : tie.Need-add-t8
 add-t8 c = search needs
+
+sub-t9 : tie.Need-sub-t9
+sub-t9 c = search needs
+
+add-t10 : tie.Need-add-t10
+add-t10 c = search needs
+
+cast-t12 : tie.Need-cast-t12
+cast-t12 c = search needs
 
 report-requires : tie.Need-report-requires
 report-requires c κs = search needs
@@ -27,4 +30,5 @@ returns c = rw (c .report .ensures)
 
 pub accepted-spec : {M : Type 1} → statement M
 accepted-spec =
-    tie.close (tie.spec cast-after cast-made add-t6 sub-t7 add-t8 report-requires returns)
+    tie.close
+    (tie.spec cast-after cast-made add-t8 sub-t9 add-t10 cast-t12 report-requires returns)

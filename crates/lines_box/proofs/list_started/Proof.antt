@@ -1,5 +1,5 @@
 use Rattle.lines.proofs.Putting.{reads-as}
-use Rattle.lines.proofs.Answering.{listed-cells, listed-text}
+use Rattle.lines.proofs.Answering.{listed-entries, listed-text}
 use Rattle.lines_box.proofs.list_started.Statement.{statement}
 use Rattle.lines_box.proofs.list_started.Tie as tie
 
@@ -7,7 +7,7 @@ insert-list-requires : tie.Need-insert-list-requires
 insert-list-requires c κs = tt
 
 write-listed-requires : tie.Need-write-listed-requires
-write-listed-requires c κs = let l = listed-cells (c .before .before .before .before .before .before .before .before .before .before .before .before .before .before .before .before .before .before .before .before .before .before .pre .0) (c .before .before .before .before .before .before .before .before .before .before .before .insert-list .ensures) in (l .0, l .1, c .before .before .before .before .before .before .before .before .before .before .before .before .before .before .before .before .before .before .before .before .before .before .pre .1)
+write-listed-requires c κs = let l = listed-entries (c .before .before .before .before .before .before .before .before .before .before .before .before .before .before .before .before .before .before .before .before .before .before .pre .0) (c .before .before .before .before .before .before .before .before .before .before .before .insert-list .ensures) in (l .0, l .1, c .before .before .before .before .before .before .before .before .before .before .before .before .before .before .before .before .before .before .before .before .before .before .pre .1)
 
 same-length : tie.Need-same-length
 same-length c = c .before .before .before .before .before .before .before .before .before .before .before .before .before .before .insert-list .kept .1 .0

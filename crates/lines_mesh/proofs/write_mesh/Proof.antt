@@ -10,8 +10,8 @@ write-box-requires : tie.Need-write-box-requires
 unfolding meshText
 write-box-requires c κs = omega (arith, simp length-append at (c .before .before .before .before .pre .2))
 
-cast-cells : tie.Need-cast-cells
-cast-cells c = search needs
+cast-used : tie.Need-cast-used
+cast-used c = search needs
 
 write-cells-requires : tie.Need-write-cells-requires
 unfolding meshText
@@ -26,4 +26,4 @@ returns c = then (c .before .before .before .before .before .before .before .wri
 
 pub write-mesh-spec : {M : Type 1} → statement M
 write-mesh-spec =
-    tie.close (tie.spec write-box-requires cast-cells write-cells-requires same-length returns)
+    tie.close (tie.spec write-box-requires cast-used write-cells-requires same-length returns)

@@ -1,14 +1,15 @@
+use mathlib.Core.Bool.{true}
 use mathlib.Core.List.{[]}
 use mathlib.Core.Logic.{⊎-elim}
-use Prim.Native.Nat.{_-_, _≤_, _<_}
+use Prim.Native.Nat.{_-_, _≤_}
 use native.Mathlib.Omega.{arith}
 use mathlib.Core.Path.{_≡_, sym, ap, _∙_, subst}
 use lib.ListN.{length}
 use borrow.Author.Needs.{needs}
-use Rattle.mesh.specs.Tables.{tables}
+use Rattle.mesh.specs.Tables.{IsCell, tables}
 use Rattle.locate.specs.Locate.{holds}
-use Rattle.locate.specs.Inner.{holdsFour, Coded}
-use Rattle.locate.proofs.Codes.{codes-length, coded, ruled-out, holds-is}
+use Rattle.locate.specs.Inner.{holdsFour}
+use Rattle.locate.proofs.Codes.{codes-length, codes-there, may-hold-cell, may-hold-coded, may-not-hold, holds-is}
 use Rattle.locate.proofs.First.{CandidateAfter, candidate-none, candidate-more, candidate-earlier, candidate-is}
 use Rattle.locate_call.proofs.first_holder.Statement.{statement}
 use Rattle.locate_call.proofs.first_holder.Tie as tie
@@ -22,14 +23,16 @@ abbrev μ-loop : tie.MeasureT-loop
 abbrev start : tie.After-four-at Inv-loop μ-loop → tie.Start Inv-loop μ-loop
 start c = c .before .before .before .before .before .before
 
--- what the codes and corners of the loop's cell are
-abbrev cell : (c : tie.After-four-at Inv-loop μ-loop) → let a = start c .args in
-    Coded (a .points .now) (c .before .before .before .side-codes .result) (c .four-at .result) (a .q)
-cell c = let p = start c .pre in coded _ _ _ _ _ (p .0) _ (omega arith) (c .before .before .before .side-codes .ensures) (c .four-at .ensures)
+-- the loop's entry is a cell
+entry : (c : tie.After-may-hold Inv-loop μ-loop) → let f = c .before .before in let a = start f .args in
+    c .may-hold .result ≡ true → IsCell (tables (a .points .now) (a .corners .now) []) (a .n) (f .before .before .loop .c)
+entry c e =
+    let f = c .before .before in
+    may-hold-cell _ _ _ _ _ (start f .pre .0) _ (omega arith) (f .before .before .before .side-codes .ensures) (f .four-at .ensures) [] (sym (c .may-hold .ensures) ∙ e)
 
-is-held : (c : tie.After-four-at Inv-loop μ-loop) → let a = start c .args in
-    holdsFour (a .points .now) (c .four-at .result) (a .q) ≡ holds (tables (a .points .now) (a .corners .now) []) (a .q) (c .before .before .loop .c)
-is-held c = let a = start c .args in holds-is (a .points .now) (a .corners .now) [] _ (a .q) (c .four-at .ensures)
+is-held : (c : tie.After-may-hold Inv-loop μ-loop) → let f = c .before .before in let a = start f .args in
+    c .may-hold .result ≡ true → holdsFour (a .points .now) (f .four-at .result) (a .q) ≡ holds (tables (a .points .now) (a .corners .now) []) (a .q) (f .before .before .loop .c)
+is-held c e = let f = c .before .before in let a = start f .args in holds-is (a .points .now) (a .corners .now) [] _ (a .q) (entry c e .lives) (f .four-at .ensures)
 
 side-codes-requires : tie.Need-side-codes-requires Inv-loop μ-loop
 side-codes-requires c κs = let p = c .before .before .pre .0 .placed in (p .points-few, p .points-fit)
@@ -40,14 +43,16 @@ loop-holds c = (omega arith, candidate-none _ _ _)
 four-at-requires : tie.Need-four-at-requires Inv-loop μ-loop
 four-at-requires c κs = search needs
 
-slice-aggregate-shared-bits : tie.Need-slice-aggregate-shared-bits Inv-loop μ-loop
-slice-aggregate-shared-bits c = sym (ap length (c .before .before .before .before .side-codes .ensures) ∙ codes-length _ _ _)
+slice-aggregate-may-hold : tie.Need-slice-aggregate-may-hold Inv-loop μ-loop
+slice-aggregate-may-hold c = sym (ap length (c .before .before .before .before .side-codes .ensures) ∙ codes-length _ _ _)
 
-shared-bits-requires : tie.Need-shared-bits-requires Inv-loop μ-loop
-shared-bits-requires c κs = cell (c .before) .code<
+may-hold-requires : tie.Need-may-hold-requires Inv-loop μ-loop
+may-hold-requires c κs = let f = c .before in codes-there _ _ _ _ _ (start f .pre .0) _ (omega arith) (f .before .before .before .side-codes .ensures) (f .four-at .ensures)
 
 cell-holds-requires : tie.Need-cell-holds-requires Inv-loop μ-loop
-cell-holds-requires c κs = let f = c .before .before .before in (cell f .corners, start f .pre .1)
+cell-holds-requires c κs =
+    let f = c .before .before .before in
+    (may-hold-coded _ _ _ _ _ (start f .pre .0) _ (omega arith) (f .before .before .before .side-codes .ensures) (f .four-at .ensures) (sym (c .before .may-hold .ensures) ∙ c .if1 .taken) .corners, start f .pre .1)
 
 earlier-requires : tie.Need-earlier-requires Inv-loop μ-loop
 earlier-requires c κs = search needs
@@ -66,11 +71,11 @@ loop-again c =
       omega arith,
       ⊎-elim
           (λ w. subst (CandidateAfter _ _ _ _) (sym (w .4 ∙ w .3 .ensures))
-          (candidate-earlier _ _ _ _ (p .0) _ (omega arith) (f .four-at .ensures) _ (l .inv .1) (sym (w .1 .ensures ∙ is-held f) ∙ w .2 .taken)))
+          (candidate-earlier _ _ _ _ (p .0) _ (omega arith) (f .four-at .ensures) _ (l .inv .1) (sym (w .1 .ensures ∙ is-held (c .before) (w .0 .taken)) ∙ w .2 .taken)))
           (⊎-elim
-          (λ w. subst (CandidateAfter _ _ _ _) (sym (w .3)) (candidate-more _ _ _ _ (l .inv .1) (sym (w .1 .ensures ∙ is-held f) ∙ w .2 .left)))
+          (λ w. subst (CandidateAfter _ _ _ _) (sym (w .3)) (candidate-more _ _ _ _ (l .inv .1) (sym (w .1 .ensures ∙ is-held (c .before) (w .0 .taken)) ∙ w .2 .left)))
           (λ w. subst (CandidateAfter _ _ _ _) (sym (w .1)) (candidate-more _ _ _ _ (l .inv .1)
-          (ruled-out _ _ _ _ _ (p .0) _ (omega arith) [] (f .before .before .before .side-codes .ensures) (f .four-at .ensures) (λ z. w .0 .left (c .before .shared-bits .ensures ∙ z))))))
+          (may-not-hold _ _ _ _ _ (p .0) _ (omega arith) (f .before .before .before .side-codes .ensures) (f .four-at .ensures) [] (sym (c .before .may-hold .ensures) ∙ w .0 .left)))))
           (c .if1 .came),
     )
 
@@ -86,8 +91,8 @@ first-holder-spec =
     side-codes-requires
     loop-holds
     four-at-requires
-    slice-aggregate-shared-bits
-    shared-bits-requires
+    slice-aggregate-may-hold
+    may-hold-requires
     cell-holds-requires
     earlier-requires
     add-c

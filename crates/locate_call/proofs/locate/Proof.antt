@@ -5,9 +5,9 @@ use mathlib.Core.Path.{_≡_, sym, ap, _∙_}
 use borrow.Author.Needs.{needs}
 use Rattle.arith.proofs.Flags.{test-failed, test-passed}
 use Rattle.geometry.specs.Volume.{inBox}
-use Rattle.mesh.specs.Tables.{Tables, corner, cornerAt, side, tables}
+use Rattle.mesh.specs.Tables.{Tables, corner, cornerAt, side, freed, live, tables}
 use Rattle.mesh.specs.Refusal.{meshRefusal}
-use Rattle.mesh.proofs.Verdict.{solid, in-range, passed}
+use Rattle.mesh.proofs.Valid.{solid, in-range, passed}
 use Rattle.locate.specs.Locate.{holds, sortedCorners, earlierHolder, firstHolder}
 use Rattle.locate.proofs.First.{holder≤}
 use Rattle.locate.proofs.Finding.{refused, outside, unheld, found}
@@ -34,8 +34,8 @@ inside c = test-passed (c .before .in-box .ensures) (c .if2 .left)
 first : (c : tie.After-first-holder) →
     let r = c .before .before .before .before .before .before in
     let a = start r .args in
-    c .first-holder .result ≡ firstHolder (lent r) (a .mesh .cells) (a .q)
-unfolding firstHolder earlierHolder holds sortedCorners side cornerAt corner
+    c .first-holder .result ≡ firstHolder (lent r) (a .mesh .used) (a .q)
+unfolding firstHolder earlierHolder holds sortedCorners live freed side cornerAt corner
 first c = c .first-holder .ensures
 
 clear-requires : tie.Need-clear-requires
@@ -72,7 +72,7 @@ cast-first-holder c = search needs
 first-holder-requires : tie.Need-first-holder-requires
 first-holder-requires c κs =
     let p = passed _ _ _ false (none (c .before .before .before .before)) in
-    (solid _ _ _ _ _ p, in-range _ _ _ _ _ p (inside (c .before .before)))
+    (solid _ _ _ _ _ p, in-range _ _ _ p (inside (c .before .before)))
 
 same-length-3 : tie.Need-same-length-3
 same-length-3 c = search needs
@@ -86,7 +86,7 @@ cast-t16 : tie.Need-cast-t16
 cast-t16 c =
     let r = c .before .before .before .before .before .before .before in
     let few = solid _ _ _ _ _ (passed _ _ _ false (none (c .before .before .before .before .before .before))) .celled .cells-few in
-    record { fits = omega (arith, first (c .before), holder≤ (lent r) (start r .args .q) (start r .args .mesh .cells), few) }
+    record { fits = omega (arith, first (c .before), holder≤ (lent r) (start r .args .q) (start r .args .mesh .used), few) }
 
 same-length-4 : tie.Need-same-length-4
 same-length-4 c = search needs

@@ -9,7 +9,7 @@ use mir.Val.{boolByte}
 use Rattle.arith.specs.Table.{allBelow}
 use Rattle.geometry.specs.declared.Position.{Position}
 use Rattle.mesh.specs.declared.Cell.{Cell}
-use Rattle.mesh.specs.Tables.{Tables, none, point, corner, across}
+use Rattle.mesh.specs.Tables.{Tables, none, point, corner, across, freed}
 use Rattle.mesh.specs.Mesh.{Wall, low-x, low-y, low-z, high-x, high-y, high-z, along, level}
 use Rattle.mesh.specs.Inner.{cellAt}
 
@@ -64,6 +64,6 @@ unfoldable pub faceNumbers : ℕ → ℕ → ℕ → Tables → ℕ → ℕ → 
 faceNumbers X Y Z t n c i =
     faceTest X Y Z t n c i (corner t c (first i)) (corner t c (second i)) (corner t c (third i)) (across t (4 * c + i))
 
--- all four faces of cell c
+-- entry c is freed, or all four of its faces pass
 unfoldable pub facesOf : ℕ → ℕ → ℕ → Tables → ℕ → ℕ → Bool
-facesOf X Y Z t n c = allBelow 4 (faceNumbers X Y Z t n c)
+facesOf X Y Z t n c = freed t c || allBelow 4 (faceNumbers X Y Z t n c)

@@ -10,10 +10,10 @@ use Rattle.mesh_cells.proofs.all_marked.Statement.{statement}
 use Rattle.mesh_cells.proofs.all_marked.Tie as tie
 
 abbrev Inv-loop : tie.InvT-loop
-Inv-loop used np v₀ v = (v ≤ np) × (allMarked used v ≡ true)
+Inv-loop marked np v₀ v = (v ≤ np) × (allMarked marked v ≡ true)
 
 abbrev μ-loop : tie.MeasureT-loop
-μ-loop used np v₀ v = np - v
+μ-loop marked np v₀ v = np - v
 
 loop-holds : tie.Need-loop-holds Inv-loop μ-loop
 unfolding allBelow

@@ -12,7 +12,7 @@ use Rattle.mesh_faces.proofs.faces_pass.Statement.{statement}
 use Rattle.mesh_faces.proofs.faces_pass.Tie as tie
 
 abbrev Inv-loop : tie.InvT-loop
-Inv-loop mesh points corners neighbours n c₀ c = (n ≡ mesh .cells) × (c ≤ n) × (allBelow c (facesOf (mesh .x) (mesh .y) (mesh .z) (tables points corners neighbours) (mesh .cells)) ≡ true)
+Inv-loop mesh points corners neighbours n c₀ c = (n ≡ mesh .used) × (c ≤ n) × (allBelow c (facesOf (mesh .x) (mesh .y) (mesh .z) (tables points corners neighbours) (mesh .used)) ≡ true)
 
 abbrev μ-loop : tie.MeasureT-loop
 μ-loop mesh points corners neighbours n c₀ c = n - c

@@ -3,7 +3,7 @@ use mathlib.Core.Path.{_≡_, sym, _∙_}
 use Rattle.mesh.specs.Tables.{tables}
 use Rattle.mesh.specs.Refusal.{meshRefusal}
 use Rattle.nodefile.specs.Write.{nodeCount}
-use Rattle.nodefile.proofs.Answers.{counts, mesh-refused, no-place, place}
+use Rattle.nodefile.proofs.Answers.{file-mesh, mesh-refused, no-place, place}
 use borrow.Author.Needs.{needs}
 use Rattle.nodefile_write.proofs.write_refusal.Statement.{statement}
 use Rattle.nodefile_write.proofs.write_refusal.Tie as tie
@@ -22,7 +22,7 @@ cast-count : tie.Need-cast-count
 cast-count c = search needs
 
 sub-count : tie.Need-sub-count
-sub-count c = counts _ _ _ (mesh (c .before)) .points≥
+sub-count c = file-mesh _ _ _ (mesh (c .before)) .points≥
 
 mul-if2 : tie.Need-mul-if2
 mul-if2 c = search needs

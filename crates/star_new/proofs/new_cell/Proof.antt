@@ -8,7 +8,7 @@ use Rattle.star_new.proofs.new_cell.Tie as tie
 
 four-at-requires : tie.Need-four-at-requires
 four-at-requires c κs =
-    let p = c .before .before .before .before .before .pre in
+    let p = c .before .before .before .before .before .before .pre in
     has-corners (p .0 .standing) _ (set-below _ _ _ (p .1 .held))
 
 cast-v : tie.Need-cast-v
@@ -25,7 +25,7 @@ new-neighbours-requires c κs = search needs
 
 returns : tie.Need-returns
 returns c b =
-    let s = c .before .before .before .before .before .before .before in
+    let s = c .before .before .before .before .before .before .before .before in
     record {
       corners-are = λ j j<.
           ap (λ l. getD (set l (s .args .k) (s .args .np)) j 0) (c .before .four-at .ensures) ∙

@@ -6,7 +6,7 @@ use gantry::{Refusal, Stopped};
 
 use super::queries::refused_at;
 use super::{one_standard_input, survey};
-use crate::check::{conditions, is_mesh, says};
+use crate::check::{conditions, is_mesh, says, Outcome};
 use crate::grid::Grid;
 use crate::input::Source;
 use crate::listing;
@@ -139,13 +139,20 @@ impl Shown {
         stop.into_iter().chain(look).collect()
     }
 
-    /// The first line of the listing, from 1, that is not the builder's.
-    fn first_difference(&self, listed: &Listed) -> Option<usize> {
-        let wanted = listing::text(&Grid::from(&self.built.mesh), self.built.stopped);
-        let [wanted, found] = [&wanted, &listed.text].map(|text| Vec::from_iter(text.lines()));
-        let lines = wanted.len().max(found.len());
-        let line = (0..lines).find(|&line| wanted.get(line) != found.get(line))?;
-        Some(line + 1)
+    /// Is the listing the one that the builder makes? Complains if not.
+    fn as_built(&mut self, listed: &Listed) -> Outcome {
+        let grid = Grid::from(&self.built.mesh);
+        let wanted = listing::text(&grid, self.built.stopped);
+        let Some(line) = first_difference(&wanted, &listed.text) else {
+            return Ok(format!("of {}", self.survey.name));
+        };
+        let name = &listed.name;
+        let complaint = format!("{name}: line {line} differs from the builder's listing");
+        self.complaints.push(complaint);
+        Err(match listed.is_mesh && self.grid.has_cells_of(&grid) {
+            true => format!("line {line} differs; the cells are the same, with other numbers"),
+            false => format!("line {line} differs"),
+        })
     }
 
     fn done(self, text: String) -> Done {
@@ -155,6 +162,14 @@ impl Shown {
             complaints: self.complaints,
         }
     }
+}
+
+/// The first line, from 1, that two texts do not share.
+fn first_difference(one: &str, other: &str) -> Option<usize> {
+    let [one, other] = [one, other].map(|text| Vec::from_iter(text.lines()));
+    let mut lines = 0..one.len().max(other.len());
+    let line = lines.find(|&line| one.get(line) != other.get(line))?;
+    Some(line + 1)
 }
 
 pub fn svg(words: &Words) -> Result<Done, Failure> {
@@ -175,8 +190,8 @@ pub fn vtk(words: &Words) -> Result<Done, Failure> {
 
 pub fn check(words: &Words) -> Result<Done, Failure> {
     let mut shown = Shown::read(words)?;
-    let name = shown
-        .listed
+    let listed = shown.listed.take();
+    let name = listed
         .as_ref()
         .map_or(&shown.survey.name, |listed| &listed.name);
     let mut text = format!("{name}: {}\n", shown.grid.summary());
@@ -189,21 +204,13 @@ pub fn check(words: &Words) -> Result<Done, Failure> {
     for (words, outcome) in conditions(&shown.grid) {
         text += &says(words, &outcome);
     }
-    if let Some(listed) = &shown.listed {
-        let same = match shown.first_difference(listed) {
-            None => Ok(format!("of {}", shown.survey.name)),
-            Some(line) => Err(format!("line {line} differs")),
-        };
+    if let Some(listed) = &listed {
         text += &says(
             "the listing is the one that the builder makes of the nodes",
-            &same,
+            &shown.as_built(listed),
         );
-        if let Err(fault) = same {
-            let complaint = format!("{}: {fault} from the builder's listing", listed.name);
-            shown.complaints.push(complaint);
-        }
     }
-    let is_mesh = match &shown.listed {
+    let is_mesh = match &listed {
         Some(listed) => listed.is_mesh,
         None => shown.built.mesh.check(),
     };

@@ -76,11 +76,11 @@ const HOLDING_TOLD: usize = 6;
 /// here, to explain the answer.
 fn holding(grid: &Grid, p: Position) -> String {
     let mut holding = vec![];
-    for (number, cell) in grid.cells.iter().enumerate() {
+    for cell in &grid.cells {
         if grid.holds(cell, p) {
             let mut corners = cell.corners;
             corners.sort_unstable();
-            holding.push((corners, number));
+            holding.push((corners, cell.number));
         }
     }
     holding.sort_unstable();
@@ -99,7 +99,7 @@ fn holding(grid: &Grid, p: Position) -> String {
 
 /// The cell that holds p, and what a controller weighs its corners with.
 fn shares(grid: &Grid, p: Position, number: usize) -> String {
-    let cell = &grid.cells[number];
+    let cell = grid.cell(number).expect("a cell of the mesh");
     let volume = grid.volume6(cell, None);
     let head = format!("position {}: cell {number}", spaced(p));
     let mut text = format!("{head}, six-fold volume {volume}\n");

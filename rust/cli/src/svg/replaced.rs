@@ -48,7 +48,7 @@ impl Picture<'_> {
 
     /// Tints and edges, near ones over far ones.
     fn draw_replaced(&mut self, replacing: &Replacing) {
-        let cells = replacing.cells.iter().map(|&(_, cell)| Part::Cell(cell));
+        let cells = replacing.cells.iter().map(|&cell| Part::Cell(cell));
         let edges = replacing.edges.iter().map(|&edge| Part::Edge(edge));
         let parts = cells.chain(edges).map(|part| (self.nearness(&part), part));
         let mut parts = Vec::from_iter(parts);

@@ -16,6 +16,8 @@ fn record(mesh: Mesh) -> Record {
         z: mesh.z,
         points: mesh.points,
         cells: mesh.cells,
+        chain: mesh.chain,
+        used: mesh.used,
     }
 }
 
@@ -26,6 +28,8 @@ fn mesh(record: Record) -> Mesh {
         z: record.z,
         points: record.points,
         cells: record.cells,
+        chain: record.chain,
+        used: record.used,
     }
 }
 

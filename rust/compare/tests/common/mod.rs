@@ -39,7 +39,7 @@ pub fn right_builds() -> Vec<Box<dyn Builder>> {
 
 /// An insertion with the marks of a look at its node.
 pub fn looked(build: &dyn Builder, mesh: Mesh, tables: &Owned, p: Position) -> Call {
-    let mut marks = vec![0; mesh.cells as usize];
+    let mut marks = vec![0; mesh.used as usize];
     build.look(mesh, &mut tables.clone().lend(), &mut marks, p);
     Call::InsertMarked(marks, p)
 }

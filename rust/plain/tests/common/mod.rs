@@ -1,6 +1,7 @@
 #![allow(dead_code)]
 
-use plain::{Inserted, Looked, Mesh, Owned, Position};
+use plain::loaded::Loaded;
+use plain::{Inserted, Looked, Mesh, Owned, Position, RightRules};
 
 /// A record with tables of its own.
 #[derive(Clone, Debug, PartialEq, Eq)]
@@ -60,19 +61,24 @@ impl Kit {
         plain::check(self.mesh, &mut self.tables.lend())
     }
 
-    pub fn volumes(&self) -> Vec<i64> {
-        let corners = self.tables.corners.chunks_exact(4);
-        let of = |cell: &[u16]| {
+    pub fn loaded(&mut self) -> Loaded<'static> {
+        Loaded::load(&RightRules, self.mesh, &self.tables.lend())
+    }
+
+    pub fn volumes(&mut self) -> Vec<i64> {
+        let mesh = self.loaded();
+        let of = |c: usize| {
+            let positions = mesh.positions(c);
             let mut numbers = [0; 12];
             for (k, number) in numbers.iter_mut().enumerate() {
-                *number = self.tables.points[3 * cell[k / 3] as usize + k % 3] as i32;
+                *number = positions[k / 3][k % 3] as i32;
             }
             plain::volume6(numbers)
         };
-        corners.take(self.mesh.cells as usize).map(of).collect()
+        mesh.cells().into_iter().map(of).collect()
     }
 
     pub fn has_corner(&self, point: u32) -> bool {
-        self.tables.corners[..4 * self.mesh.cells as usize].contains(&(point as u16))
+        self.tables.corners[..4 * self.mesh.used as usize].contains(&(point as u16))
     }
 }
