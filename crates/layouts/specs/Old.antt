@@ -39,7 +39,7 @@ oldCavity t n p yes? = iterate n (oldGrown t n yes?) (oldBase t n p)
 unfoldable pub oldCorrectedCavity : Tables → ℕ → Position → (ℕ → Bool) → List Bool
 oldCorrectedCavity t n p yes? = corrected t n p (oldBase t n p) (oldCavity t n p yes?)
 
--- the shared definitions are these, of any tables with a record of document 01: the mesh check, and where it passes, what holds P, and the spot before and
+-- the shared definitions are these, of any tables with a record of document 01: the mesh check, and where it passes, what holds P, and the cavity before and
 -- after correction
 pub record OldWords (x y z np n : ℕ) (t : Tables) (w : ℕ) : Type 0 where
   pub check : isMesh (packedRecord x y z np n) t w ≡ oldCheck (packedRecord x y z np n) t w

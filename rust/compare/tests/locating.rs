@@ -2,13 +2,10 @@
 
 mod common;
 
-use common::Counts;
+use common::{each_step, Counts};
 use compare::call::{Answer, Call, Left};
-use compare::generate::{History, Step};
-use compare::guarded::GuardedTables;
-use compare::Tuned;
+use compare::generate::Step;
 use plain::loaded::Loaded;
-use plain::random::Random;
 use plain::{Position, RightRules, Rules};
 use wrong::{CornersUnsorted, GreatestFirst, LowestNumbered};
 
@@ -116,33 +113,22 @@ fn of_parked(before: &Held, now: &Held) -> Situations {
 
 /// Each situation, and how often the histories come to it.
 fn counts(seed: u64, calls: u64) -> Counts {
-    let mut random = Random::new(seed);
-    let mut history = History::new(&mut random);
     let mut counts = Counts::default();
     let mut parked: Option<Held> = None;
-    for _ in 0..calls {
-        if history.is_over() {
-            history = History::new(&mut random);
+    each_step(seed, calls, |step, left, begins| {
+        if begins || matches!(step.call, Call::Start(_)) {
             parked = None;
         }
-        let step = history.next(&mut random);
-        let left = step
-            .call
-            .make(&Tuned, step.mesh, &GuardedTables::new(&step.tables));
-        history.take(&step, &left);
-        if let Call::Start(_) = step.call {
-            parked = None;
-        }
-        let Some(held) = Held::of(&step, &left).filter(|_| step.is_kept) else {
-            continue;
+        let Some(held) = Held::of(step, left).filter(|_| step.is_kept) else {
+            return;
         };
         let mut situations = [of_place(&held), of_order(&held)].concat();
-        if let Some(before) = parked.filter(|before| before.is_before(&held)) {
+        if let Some(before) = parked.take().filter(|before| before.is_before(&held)) {
             situations.extend(of_parked(&before, &held));
         }
         counts.add(situations);
         parked = Some(held);
-    }
+    });
     counts
 }
 

@@ -2,14 +2,11 @@
 
 mod common;
 
-use common::Counts;
+use common::{each_step, Counts};
 use compare::call::{Call, Left};
-use compare::generate::{History, Step};
-use compare::guarded::GuardedTables;
-use compare::Tuned;
+use compare::generate::Step;
 use plain::found::{find, Found};
 use plain::loaded::Loaded;
-use plain::random::Random;
 use plain::{Answers, Mesh, Position, RightRules};
 
 type Situations = Vec<(&'static str, bool)>;
@@ -208,28 +205,20 @@ fn situations(step: &Step, left: &Left, looked: &Looked) -> Situations {
 
 /// Each situation, and how often the histories come to it.
 fn counts(seed: u64, calls: u64) -> Counts {
-    let mut random = Random::new(seed);
-    let mut history = History::new(&mut random);
     let mut counts = Counts::default();
     let mut looked = None;
-    for _ in 0..calls {
-        if history.is_over() {
-            history = History::new(&mut random);
+    each_step(seed, calls, |step, left, begins| {
+        if begins {
             looked = None;
         }
-        let step = history.next(&mut random);
-        let left = step
-            .call
-            .make(&Tuned, step.mesh, &GuardedTables::new(&step.tables));
-        history.take(&step, &left);
-        counts.add(situations(&step, &left, &looked));
+        counts.add(situations(step, left, &looked));
         match step.call {
             Call::Look(_, p) if step.is_kept && left.answer.outcome() == 0 => {
                 looked = Some((p, left.others.output.lent().to_vec()));
             }
             _ => {}
         }
-    }
+    });
     counts
 }
 

@@ -3,15 +3,12 @@
 
 mod common;
 
-use common::Counts;
+use common::{each_step, Counts};
 use compare::call::{Answer, Call, Left};
 use compare::entries::Entries;
-use compare::generate::{History, Step};
-use compare::guarded::GuardedTables;
-use compare::Tuned;
+use compare::generate::Step;
 use plain::found::find;
 use plain::loaded::{End, Loaded};
-use plain::random::Random;
 use plain::{Answers, Inserted, Mesh, RightRules, Rules, NONE};
 use wrong::{CirclePasses, CountAny, FreedNeighboursAny, MissedFreedPasses, OneCornerFrees};
 
@@ -163,18 +160,9 @@ fn situations(step: &Step, left: &Left) -> Situations {
 
 #[test]
 fn every_situation_occurs() {
-    let mut random = Random::new(1);
-    let mut history = History::new(&mut random);
     let mut counts = Counts::default();
-    for _ in 0..60_000 {
-        if history.is_over() {
-            history = History::new(&mut random);
-        }
-        let step = history.next(&mut random);
-        let tables = GuardedTables::new(&step.tables);
-        let left = step.call.make(&Tuned, step.mesh, &tables);
-        history.take(&step, &left);
-        counts.add(situations(&step, &left));
-    }
+    each_step(1, 60_000, |step, left, _| {
+        counts.add(situations(step, left))
+    });
     counts.all_occur(14 + 4 + 7 + 20);
 }

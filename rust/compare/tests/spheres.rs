@@ -1,18 +1,18 @@
 //! The random calls come to every situation in which builds of the sphere test are likely to part, by themselves and in
 //! insertions.
 
+mod common;
+
 use std::cmp::Ordering::{self, Equal, Greater, Less};
 use std::collections::BTreeMap;
 
+use common::each_step;
 use compare::call::{Answer, Call, Left};
-use compare::generate::{History, Step};
-use compare::guarded::GuardedTables;
+use compare::generate::Step;
 use compare::spheres::NEAR_TIES;
-use compare::Tuned;
 use plain::cavity::Cavity;
 use plain::geometry::{exact_sum, float_sum};
 use plain::loaded::Loaded;
-use plain::random::Random;
 use plain::{Answers, Owned, Position, RightRules};
 
 /// E and T of a cell and a position.
@@ -96,18 +96,9 @@ type Counts = BTreeMap<(&'static str, &'static str), u64>;
 
 /// Each situation after what is called, and how many calls come to it.
 fn counts(seed: u64, calls: u64) -> Counts {
-    let mut random = Random::new(seed);
-    let mut history = History::new(&mut random);
     let mut counts = Counts::new();
-    for _ in 0..calls {
-        if history.is_over() {
-            history = History::new(&mut random);
-        }
-        let step = history.next(&mut random);
-        let tables = GuardedTables::new(&step.tables);
-        let left = step.call.make(&Tuned, step.mesh, &tables);
-        history.take(&step, &left);
-        let (call, sums) = gone_by(&step, &left);
+    each_step(seed, calls, |step, left, _| {
+        let (call, sums) = gone_by(step, left);
         let mut found: BTreeMap<&str, bool> = BTreeMap::new();
         for (situation, occurs) in sums.into_iter().flat_map(situations) {
             *found.entry(situation).or_default() |= occurs;
@@ -115,7 +106,7 @@ fn counts(seed: u64, calls: u64) -> Counts {
         for (situation, occurs) in found {
             *counts.entry((call, situation)).or_default() += u64::from(occurs);
         }
-    }
+    });
     counts
 }
 

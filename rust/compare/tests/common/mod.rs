@@ -2,8 +2,11 @@
 
 use std::collections::BTreeMap;
 
-use compare::call::Call;
+use compare::call::{Call, Left};
+use compare::generate::{History, Step};
+use compare::guarded::GuardedTables;
 use compare::{Builder, Plain, Tuned};
+use plain::random::Random;
 use plain::{Mesh, Owned, Position};
 
 /// How often each situation occurred.
@@ -24,6 +27,24 @@ impl Counts {
         let missing: Vec<_> = missing.map(|(situation, _)| situation).collect();
         assert!(missing.is_empty(), "{missing:?}");
         assert_eq!(self.0.len(), situations);
+    }
+}
+
+/// So many calls of random histories, made on the tuned build: shows each, with what it left, and whether a history begins with it.
+pub fn each_step(seed: u64, calls: u64, mut show: impl FnMut(&Step, &Left, bool)) {
+    let mut random = Random::new(seed);
+    let mut history = History::new(&mut random);
+    let mut begins = true;
+    for _ in 0..calls {
+        let step = history.next(&mut random);
+        let tables = GuardedTables::new(&step.tables);
+        let left = step.call.make(&Tuned, step.mesh, &tables);
+        history.take(&step, &left);
+        show(&step, &left, begins);
+        begins = history.is_over();
+        if begins {
+            history = History::new(&mut random);
+        }
     }
 }
 
