@@ -94,6 +94,6 @@ END {
         calls++
     }
     close("sort")
-    print "stack: " calls + 0 " of 13 calls; with " library " for the C library " (over ? "not below " limit ":" over : "all below " limit)
-    exit over || calls != 13
+    print "stack: " calls + 0 " of 15 calls; with " library " for the C library " (over ? "not below " limit ":" over : "all below " limit)
+    exit over || calls != 15
 }'

@@ -22,11 +22,12 @@ extern "C" {
 
 /*
  * Refusals; docs/MANUAL.md says what to do about each. A refusal changes nothing but the work area; a list that stops at a refused
- * node keeps the nodes before it. Tests are made in number order, but a file's 9 before its 2, and gantry_merge's in the order given there.
+ * node keeps the nodes before it. Tests are made in number order, but 13 and then 12 directly after 5, a file's 9 before its 2, and
+ * gantry_merge's in the order given there.
  * 7 is never answered: that is proved, as never-seven in crates/covering.
  */
 #define GANTRY_ACCEPTED 0
-#define GANTRY_SHORT 1          /* room for fewer than 8 points or 6 cells, or fewer answer bytes than the used length */
+#define GANTRY_SHORT 1          /* room for fewer than 8 points or 6 cells; fewer answers than the used length, or corrections than 3 a point of room */
 #define GANTRY_BOX 2            /* a side is 0 or above 131,072 */
 #define GANTRY_NO_MESH 3        /* record and tables fail the mesh check */
 #define GANTRY_OUTSIDE 4        /* a position outside the box; in the sphere test, a coordinate above 131,072 */
@@ -37,6 +38,8 @@ extern "C" {
 #define GANTRY_TRAILER 9        /* a file under 20 bytes, or a wrong count or distance in its trailer */
 #define GANTRY_NO_PLACE 10      /* the output is shorter than what is to be written */
 #define GANTRY_FLAT_CELL 11     /* a sphere test on a cell of volume 0 or less */
+#define GANTRY_OUT_OF_RANGE 12  /* a correction outside -1,000 to 1,000, handed in or standing in the table for a point of the mesh */
+#define GANTRY_NO_POINT 13      /* a point number that is not in the mesh */
 #define GANTRY_OTHER_MARKS 14   /* the marks handed in are too few, or not those that a look would now give */
 #define GANTRY_UNEQUAL_SIDES 19 /* the boxes of two files to be merged differ in a side */
 
@@ -63,6 +66,7 @@ typedef struct { uint8_t refusal; gantry_mesh mesh; uint32_t point, before, afte
 typedef struct { uint8_t refusal; uint32_t point, before, after, made; double least; } gantry_looked;
 typedef struct { uint8_t refusal; gantry_mesh mesh; uint32_t place; } gantry_listed;      /* place: of the refused node, or how many went in */
 typedef struct { uint8_t refusal; uint32_t cell; } gantry_located;
+typedef struct { uint8_t refusal; int32_t x, y, z; } gantry_corrected;
 typedef struct { uint8_t refusal; uint8_t answer; double t; } gantry_sphere;              /* 1 inside, 2 outside */
 typedef struct { uint8_t refusal; uint32_t x, y, z, count; } gantry_read;
 typedef struct { uint8_t refusal; uint32_t bytes; } gantry_written;
@@ -85,6 +89,17 @@ typedef struct { uint8_t refusal; uint32_t bytes; } gantry_written;
     uint16_t *neighbours, size_t neighbours_len, uint16_t *work, size_t work_len
 
 /*
+ * The corrections: a table beside these, 3 signed entries a point, for x, y, z in steps, each from -1,000 to 1,000. A start, the insertions,
+ * the look, gantry_correction and gantry_set_correction are lent it; the other calls are not. It has at least 3 entries for each point of
+ * room, that is points_len / 3, at most 1,024 (else 1).
+ *
+ * An accepted start sets the corrections of the eight box corners to 0. An accepted node gets those that its position had before, and
+ * gantry_set_correction gives a point others. Nothing else of the table is written, and nothing for a node or a setting that is refused.
+ * A number out of range that stands there for a point of the mesh is refused with 12, whether or not the call would use it; entries past the
+ * points of the mesh may hold anything.
+ */
+
+/*
  * Cell numbers stay. An insertion replaces the cells of its corrected cavity; where it goes by the sphere test, a look names them before, by
  * a mark of 1. Every other cell keeps its number and its four corners. Its neighbours are the same too, but where a replaced cell was across
  * a face: there it names a new one.
@@ -104,52 +119,57 @@ typedef struct { uint8_t refusal; uint32_t bytes; } gantry_written;
  * number is that of the same cell as long as its four corners are below the point count at which it was stored; a freed number's are not.
  */
 
-/* The mesh of a box: its eight corners and six cells; chain GANTRY_NONE, used 6. Refusals 1 2. */
-gantry_started gantry_start(uint32_t x, uint32_t y, uint32_t z, GANTRY_TABLES);
+/* The mesh of a box: its eight corners, with corrections 0, and six cells; chain GANTRY_NONE, used 6. Refusals 1 2. */
+gantry_started gantry_start(uint32_t x, uint32_t y, uint32_t z, GANTRY_TABLES, int32_t *corrections, size_t corrections_len);
 
 /*
  * Inserts one node, by the sphere test. The answer has the node's point number, how many cells its cavity had before and
  * after correction, how many cells were made, and the least T over the cavity before correction; T is a float and may be 0 or
- * below (see gantry_sphere_test). Point numbers stay, and so do the numbers of the cells outside the cavity. Refusals 1 to 8.
+ * below (see gantry_sphere_test). Point numbers stay, and so do the numbers of the cells outside the cavity. The position's correction
+ * is the same before and after. Refusals 1 2 3 4 5 12 6 7 8.
  *
  * While all nodes since the start have gone in by the sphere test, here or in a list, no point of the mesh lies strictly inside the
  * sphere of any cell, and the correction removes nothing: before and after are equal. Refused calls of any kind may stand between. That
  * is proved in crates/spheres. It is not said of a mesh with nodes that version 0.4 put in, or of tables of another origin: gantry_check
  * does not look at spheres.
  */
-gantry_inserted gantry_insert(gantry_mesh mesh, GANTRY_TABLES, uint32_t x, uint32_t y, uint32_t z);
+gantry_inserted gantry_insert(gantry_mesh mesh, GANTRY_TABLES, int32_t *corrections, size_t corrections_len,
+                              uint32_t x, uint32_t y, uint32_t z);
 
 /*
  * The same by answers handed in, one byte for each number below the used length: nonzero where the node counts as inside the cell's sphere;
  * a freed number's is ignored. Fewer bytes are refused with 1. least is 0.0. Any answers leave a mesh; but once a node has gone in so,
  * nothing is promised of points and spheres.
  */
-gantry_inserted gantry_insert_answers(gantry_mesh mesh, GANTRY_TABLES,
+gantry_inserted gantry_insert_answers(gantry_mesh mesh, GANTRY_TABLES, int32_t *corrections, size_t corrections_len,
                                       const uint8_t *answers, size_t answers_len, uint32_t x, uint32_t y, uint32_t z);
 
 /*
  * Looks at the insertion of a node by the sphere test, and inserts nothing. The answer is the report that gantry_insert would give. marks
  * gets a byte for each number below the used length: 1 where the node would replace the cell, 0 for the other cells and for freed numbers;
- * bytes beyond stay as they were, and all of them do where the look is refused. Writes the work area and marks alone. Refusals 1 to 8, just
- * where gantry_insert would answer them, then 10 for fewer bytes than the used length.
+ * bytes beyond stay as they were, and all of them do where the look is refused. Writes the work area and marks alone. Refused just as
+ * gantry_insert would be, and after that with 10 for fewer bytes than the used length.
  */
-gantry_looked gantry_look(gantry_mesh mesh, GANTRY_TABLES, uint8_t *marks, size_t marks_len, uint32_t x, uint32_t y, uint32_t z);
+gantry_looked gantry_look(gantry_mesh mesh, GANTRY_TABLES, const int32_t *corrections, size_t corrections_len,
+                          uint8_t *marks, size_t marks_len, uint32_t x, uint32_t y, uint32_t z);
 
 /*
  * Inserts a node as gantry_insert does, but only if a look would now give these marks: each byte up to the used length must be exactly the
  * one that gantry_look would write; bytes beyond are not read. After a look at this node, with its marks, with record and tables as it left
  * them and a work area of the same length, the node goes in, with the report that the look gave; with other marks the answer is 14. That is
- * proved in crates/look_first. Refusals 1 to 8, then 14.
+ * proved in crates/look_first. Refused as gantry_insert is, then with 14.
  */
-gantry_inserted gantry_insert_marked(gantry_mesh mesh, GANTRY_TABLES,
+gantry_inserted gantry_insert_marked(gantry_mesh mesh, GANTRY_TABLES, int32_t *corrections, size_t corrections_len,
                                      const uint8_t *marks, size_t marks_len, uint32_t x, uint32_t y, uint32_t z);
 
 /*
  * Inserts nodes, three numbers each, up to the first that is refused: then place is its place in the list, from 0, and the nodes
  * before it stay in. nodes_len counts numbers, and one or two after the last whole node are not read: an accepted list has place
- * nodes_len / 3. Refusals 1 to 3 refuse the whole list, with place 0.
+ * nodes_len / 3. Refusals 1 to 3 refuse the whole list, with place 0. A 12 stops it at its first node: after one that went in all
+ * corrections are in range.
  */
-gantry_listed gantry_insert_list(gantry_mesh mesh, GANTRY_TABLES, const uint32_t *nodes, size_t nodes_len);
+gantry_listed gantry_insert_list(gantry_mesh mesh, GANTRY_TABLES, int32_t *corrections, size_t corrections_len,
+                                 const uint32_t *nodes, size_t nodes_len);
 
 /*
  * Of the cells that hold a position, their faces, edges and corners included, the one whose four corner numbers, sorted upward, come
@@ -159,6 +179,24 @@ gantry_listed gantry_insert_list(gantry_mesh mesh, GANTRY_TABLES, const uint32_t
  * Refusals 1 2 3 4 7.
  */
 gantry_located gantry_locate(gantry_mesh mesh, GANTRY_TABLES, uint32_t x, uint32_t y, uint32_t z);
+
+/*
+ * The correction of a position on each axis. In the located cell each corner has its share, the six-fold volume of the cell with that corner
+ * replaced by the position; the correction is the sum of the corners' corrections, each times its share, over the cell's six-fold volume,
+ * rounded to the nearest whole number, halves away from zero. It is the same from every cell that holds the position, lies between the least
+ * and the greatest of the four corners', and is a point's own where one is: that is proved in crates/corrections. Writes the work area alone.
+ * Refusals 1 2 3 4 12 7.
+ */
+gantry_corrected gantry_correction(gantry_mesh mesh, GANTRY_TABLES, const int32_t *corrections, size_t corrections_len,
+                                   uint32_t x, uint32_t y, uint32_t z);
+
+/*
+ * Gives a point of the mesh, a box corner or a node, the corrections x, y, z. Answers the refusal, 0 where they were set. 12 is answered where
+ * one of the three is out of range, and where a number out of range stands in the table, even one that this call would replace. Writes the
+ * work area and the point's three entries alone. Refusals 1 2 3 13 12.
+ */
+uint8_t gantry_set_correction(gantry_mesh mesh, GANTRY_TABLES, int32_t *corrections, size_t corrections_len,
+                              uint32_t point, int32_t x, int32_t y, int32_t z);
 
 /*
  * Whether record and tables are a mesh. In one, every place of the box, at whole steps and at any fraction of one, is held by a cell,

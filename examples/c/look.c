@@ -12,15 +12,17 @@ static uint32_t points[3 * POINTS];
 static uint16_t corners[4 * CELLS];
 static uint16_t neighbours[4 * CELLS];
 static uint16_t work[3 * CELLS];
+static int32_t corrections[3 * POINTS];
 
 #define TABLES points, 3 * POINTS, corners, 4 * CELLS, neighbours, 4 * CELLS, work, 3 * CELLS
+#define CORRECTIONS corrections, 3 * POINTS
 
 /* A node with what a look at it marked. */
 typedef struct { const char *name; uint32_t x, y, z; uint8_t marks[CELLS]; } planned;
 
 static void look(gantry_mesh mesh, planned *node)
 {
-    gantry_looked looked = gantry_look(mesh, TABLES, node->marks, CELLS, node->x, node->y, node->z);
+    gantry_looked looked = gantry_look(mesh, TABLES, CORRECTIONS, node->marks, CELLS, node->x, node->y, node->z);
     uint32_t cell;
 
     printf("look at the %s node: refusal %u; point %u, %u of %u cells would be replaced by %u:", node->name, (unsigned)looked.refusal,
@@ -34,7 +36,7 @@ static void look(gantry_mesh mesh, planned *node)
 
 static gantry_mesh insert(gantry_mesh mesh, const planned *node)
 {
-    gantry_inserted inserted = gantry_insert_marked(mesh, TABLES, node->marks, CELLS, node->x, node->y, node->z);
+    gantry_inserted inserted = gantry_insert_marked(mesh, TABLES, CORRECTIONS, node->marks, CELLS, node->x, node->y, node->z);
 
     printf("insert the %s node: refusal %u; %u points, %u cells\n", node->name, (unsigned)inserted.refusal,
            (unsigned)inserted.mesh.points, (unsigned)inserted.mesh.cells);
@@ -46,8 +48,8 @@ int main(void)
     static const uint32_t measured[] = {500, 400, 300, 1500, 400, 300, 1000, 900, 600};
     static planned first = {"first", 1000, 600, 400, {0}}, second = {"second", 1200, 500, 300, {0}};
 
-    gantry_started start = gantry_start(2000, 1200, 800, TABLES);
-    gantry_listed list = gantry_insert_list(start.mesh, TABLES, measured, sizeof measured / sizeof measured[0]);
+    gantry_started start = gantry_start(2000, 1200, 800, TABLES, CORRECTIONS);
+    gantry_listed list = gantry_insert_list(start.mesh, TABLES, CORRECTIONS, measured, sizeof measured / sizeof measured[0]);
     gantry_mesh mesh = list.mesh;
     if (start.refusal != GANTRY_ACCEPTED || list.refusal != GANTRY_ACCEPTED) {
         printf("refused %u %u\n", (unsigned)start.refusal, (unsigned)list.refusal);

@@ -12,9 +12,11 @@ static uint32_t points[3 * POINTS];
 static uint16_t corners[4 * CELLS];
 static uint16_t neighbours[4 * CELLS];
 static uint16_t work[3 * CELLS];
+static int32_t corrections[3 * POINTS];
 static uint8_t marks[CELLS];
 
 #define TABLES points, 3 * POINTS, corners, 4 * CELLS, neighbours, 4 * CELLS, work, 3 * CELLS
+#define CORRECTIONS corrections, 3 * POINTS
 
 /* A parked head, its cell's number, and the point count at which that was stored. */
 typedef struct { uint32_t x, y, z, cell, points; } parked;
@@ -90,8 +92,8 @@ int main(void)
     static const uint32_t later[] = {1800, 300, 200, 400, 1000, 400};
     int i;
 
-    gantry_started start = gantry_start(2000, 1200, 800, TABLES);
-    gantry_listed list = gantry_insert_list(start.mesh, TABLES, measured, sizeof measured / sizeof measured[0]);
+    gantry_started start = gantry_start(2000, 1200, 800, TABLES, CORRECTIONS);
+    gantry_listed list = gantry_insert_list(start.mesh, TABLES, CORRECTIONS, measured, sizeof measured / sizeof measured[0]);
     if (start.refusal != GANTRY_ACCEPTED || list.refusal != GANTRY_ACCEPTED) {
         printf("refused %u %u\n", (unsigned)start.refusal, (unsigned)list.refusal);
         return 1;
@@ -99,16 +101,16 @@ int main(void)
     for (i = 0; i < HEADS; i++)
         store(list.mesh, &heads[i]);
 
-    gantry_looked look = gantry_look(list.mesh, TABLES, marks, CELLS, 1000, 600, 400);
+    gantry_looked look = gantry_look(list.mesh, TABLES, CORRECTIONS, marks, CELLS, 1000, 600, 400);
     printf("a look: refusal %u, %u cells would go\n", (unsigned)look.refusal, (unsigned)look.after);
     for (i = 0; i < HEADS; i++)
         printf("  head %d: cell %u would %s\n", i, (unsigned)heads[i].cell, marks[heads[i].cell] == 1 ? "go" : "stay");
 
-    gantry_inserted node = gantry_insert_marked(list.mesh, TABLES, marks, CELLS, 1000, 600, 400);
+    gantry_inserted node = gantry_insert_marked(list.mesh, TABLES, CORRECTIONS, marks, CELLS, 1000, 600, 400);
     printf("the node: refusal %u, %u cells made\n", (unsigned)node.refusal, (unsigned)node.made);
     renew(node.mesh);
 
-    list = gantry_insert_list(node.mesh, TABLES, later, sizeof later / sizeof later[0]);
+    list = gantry_insert_list(node.mesh, TABLES, CORRECTIONS, later, sizeof later / sizeof later[0]);
     printf("two nodes more: refusal %u, %u went in\n", (unsigned)list.refusal, (unsigned)list.place);
     renew(list.mesh);
     visit_all(list.mesh);

@@ -5,9 +5,11 @@ use std::path::{Path, PathBuf};
 const VARIABLE: &str = "GANTRY_ARCHIVE_DIR";
 
 fn archive_dir() -> PathBuf {
+    // Asked as it runs: a build of this script may be kept for the same sources at another path.
+    let here = || std::env::var_os("CARGO_MANIFEST_DIR").unwrap_or_default();
     match std::env::var_os(VARIABLE) {
         Some(dir) => PathBuf::from(dir),
-        None => Path::new(env!("CARGO_MANIFEST_DIR")).join("../../target/staticlib"),
+        None => Path::new(&here()).join("../../target/staticlib"),
     }
 }
 

@@ -22,11 +22,11 @@ use Rattle.mesh.specs.Tables.{Tables, tables, live}
 use Rattle.mesh.specs.Inner.{HasCell, fourAt, SomeMesh}
 use Rattle.locate.specs.Locate.{holds}
 use Rattle.cavity.specs.declared.Gathered.{Gathered}
-use Rattle.cavity.specs.Answers.{Answers, saysYes}
+use Rattle.cavity.specs.Answers.{Answers, saysYes, reportT}
 use Rattle.cavity.specs.Cavity.{inSet, base, cavityOf, marked, pruned, corrected, correctedCavity, cavitySize}
 use Rattle.cavity.specs.Inner.{inside, setOf, Enumerated, Inspected, CavityFound}
 use Rattle.cavity.specs.Inner.Correction.{Correctable, InspectedTo, cellStays, KeptOrRemoved, Round}
-use Rattle.cavity.specs.Inner.Growth.{Scanned, Reached}
+use Rattle.cavity.specs.Inner.Growth.{Lowest, Scanned, Reached}
 use Rattle.cavity.proofs.Correction.{base-at, corrected-stops}
 use Rattle.mesh.proofs.Reading.{cells-few, has-corners, corner-mark}
 use Rattle.cavity.proofs.Gathering.{size≤, none-inside}
@@ -326,8 +326,8 @@ module _ {ps cs ns : List ℕ} {np n : ℕ} (M : SomeMesh (tables ps cs ns) np n
   abbrev u : Tables
   u = tables ps cs ns
 
-  pub found-none : {fa : List ℕ} (x : Float) → length fa ≡ 4096 → g₀ .size ≡ 0 → CavityFound a u p n st₀ li₀ fa record { before = 0; after = 0; least = x }
-  found-none x l e = record {
+  pub found-none : {fa : List ℕ} (x : Float) (k : ℕ) → length fa ≡ 4096 → g₀ .size ≡ 0 → CavityFound a u p n st₀ li₀ fa record { before = 0; after = 0; least = x; holder = k }
+  found-none x k l e = record {
     states = S .growing .list .states;
     entries = S .growing .list .entries;
     codes = l;
@@ -338,12 +338,18 @@ module _ {ps cs ns : List ℕ} {np n : ℕ} (M : SomeMesh (tables ps cs ns) np n
     coded = λ d. absurd (d refl);
     before-is = λ d. absurd (d refl);
     after-is = λ d. absurd (d refl);
+    holder< = λ d. absurd (d refl);
+    holder-holds = λ d. absurd (d refl);
     least-is = λ d. absurd (d refl);
   }
 
   module _ (d : g₀ .size ≢ 0) {st₁ li₁ : List ℕ} {g : Gathered} (G : Reached a u p n st₁ li₁ g) (all : setOf n st₁ ≡ cavityOf u n p (saysYes a u p)) where
     pub grown-correctable : Correctable u n (base u n p) st₁ li₁ (g .size)
     grown-correctable = record { list = G .growing .list; states = G .growing .states; based = G .based }
+
+    -- the base's cell with the least T
+    first : Lowest (reportT a u p) n st₀ g₀
+    first = S .growing .lowest (omega (arith, d))
 
     some : g .size ≢ 0
     some e =
@@ -356,7 +362,7 @@ module _ {ps cs ns : List ℕ} {np n : ℕ} (M : SomeMesh (tables ps cs ns) np n
     size-is {st} {li} {size} {s} L e = sym (L .counted) ∙ (count-cong n (inside st) (inSet (setOf n st)) (λ k h. sym (set-at n st k h)) ∙ ap (λ s. countBelow n (inSet s)) e)
 
     pub found-cavity : {st li fa : List ℕ} {after : ℕ} → Enumerated u n st li after → length fa ≡ 4096 → setOf n st ≡ corrected u n p (base u n p) (setOf n st₁) →
-        Inspected u n p (setOf n st) st fa → CavityFound a u p n st li fa record { before = g .size; after = after; least = g .least }
+        Inspected u n p (setOf n st) st fa → CavityFound a u p n st li fa record { before = g .size; after = after; least = g .least; holder = g₀ .at }
     unfolding correctedCavity
     found-cavity {st} {li} {fa} {after} L l e I =
         let is : setOf n st ≡ corrected u n p (base u n p) (cavityOf u n p (saysYes a u p)) = e ∙ ap (corrected u n p (base u n p)) all in
@@ -371,5 +377,7 @@ module _ {ps cs ns : List ℕ} {np n : ℕ} (M : SomeMesh (tables ps cs ns) np n
           coded = λ x. I;
           before-is = λ x. size-is (G .growing .list) all;
           after-is = λ x. size-is L is;
+          holder< = λ x. first .at<;
+          holder-holds = λ x. and-right (ltb (g₀ .at) n) (holds u p (g₀ .at)) (sym (S .exactly (g₀ .at) (first .at<)) ∙ first .at-inside);
           least-is = λ x. least-is M a r (G .growing) (omega (arith, some)) all;
         }

@@ -89,4 +89,6 @@ pub record CavityFound (a : Answers) (t : Tables) (p : Position) (n : ℕ) (st l
   pub coded : r .before ≢ 0 → Inspected t n p (setOf n st) st fa
   pub before-is : r .before ≢ 0 → r .before ≡ cavitySize n (cavityOf t n p (saysYes a t p))
   pub after-is : r .before ≢ 0 → r .after ≡ cavitySize n (correctedCavity t n p (saysYes a t p))
+  pub holder< : r .before ≢ 0 → r .holder < n
+  pub holder-holds : r .before ≢ 0 → holds t p (r .holder) ≡ true
   pub least-is : r .before ≢ 0 → r .least ≡ leastT (reportT a t p) n (cavityOf t n p (saysYes a t p))

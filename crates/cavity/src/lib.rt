@@ -27,9 +27,10 @@ pub struct Gathered {
     pub at: usize,
 }
 
-// A cavity's size before and after correction, and its least T before; no size where no cell holds the node.
+// A cavity's size before and after correction, its least T before, and a cell of its base; no size where no cell holds the node.
 pub struct Extent {
     pub before: usize,
     pub after: usize,
     pub least: f64,
+    pub holder: usize,
 }

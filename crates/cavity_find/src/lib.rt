@@ -49,8 +49,10 @@ pub fn find_cavity(
             before: 0,
             after: 0,
             least: 0.0,
+            holder: 0,
         };
     }
+    let holder = base.at;
     let all = grow(
         points,
         corners,
@@ -78,6 +80,7 @@ pub fn find_cavity(
         before: before,
         after: after,
         least: all.least,
+        holder: holder,
     }
 }
 

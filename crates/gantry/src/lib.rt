@@ -11,8 +11,19 @@ ghost use Rattle.insphere.specs.Sphere.{sphereSum, sphereCall};
 ghost use Rattle.mesh.specs.Tables.{tablesBefore, tablesAfter, cleared};
 ghost use Rattle.mesh.specs.Check.{isMesh};
 ghost use Rattle.cavity.specs.Answers.{sphere, handed};
+ghost use Rattle.corrections.specs.Calls.{setRefusal, setTable};
 ghost use Rattle.gantry_numbers.specs.Numbers.{testedOf};
-ghost use Rattle.gantry_numbers.specs.Promises.{Starts, Inserts, Looks, InsertsMarked, Lists, Locates, Reads, Writes, Merges, GivesNear};
+ghost use Rattle.gantry_numbers.specs.Promises.{Starts, Inserts, Looks, InsertsMarked, Lists, Locates, Corrects, Reads, Writes, Merges, GivesNear};
+use corrections::Correction;
+use corrections_call::correction;
+use corrections_call::set_correction;
+use corrections_list::insert_list;
+use corrections_look::look;
+use corrections_marked::insert_marked;
+use corrections_single::insert;
+use corrections_single::insert_answers;
+use corrections_start::start;
+use gantry_numbers::GantryCorrected;
 use gantry_numbers::GantryInserted;
 use gantry_numbers::GantryListed;
 use gantry_numbers::GantryLocated;
@@ -21,6 +32,7 @@ use gantry_numbers::GantryRead;
 use gantry_numbers::GantrySphere;
 use gantry_numbers::GantryStarted;
 use gantry_numbers::GantryWritten;
+use gantry_numbers::corrected;
 use gantry_numbers::inserted;
 use gantry_numbers::listed;
 use gantry_numbers::located;
@@ -31,17 +43,11 @@ use gantry_numbers::tested;
 use gantry_numbers::written;
 use geometry::Position;
 use geometry::volume::volume6;
-use insertion_list::insert_list;
-use insertion_look::look;
-use insertion_marked::insert_marked;
-use insertion_single::insert;
-use insertion_single::insert_answers;
 use insphere::sphere_test;
 use locate_call::locate;
 use merging_call::merge;
 use mesh::Mesh;
 use mesh_check::check;
-use mesh_start::start;
 use nodefile_read::read_nodes;
 use nodefile_write::write_nodes;
 
@@ -126,11 +132,12 @@ pub extern "C" fn gantry_start(
     corners: &mut [u16],
     neighbours: &mut [u16],
     work: &mut [u16],
+    corrections: &mut [i32],
 ) -> GantryStarted
-    ensures { λ r. ⌜ Starts x y z (tablesBefore points corners neighbours) (now (work .entry))
-        r (tablesAfter points corners neighbours) (now (work .exit)) ⌝ }
+    ensures { λ r. ⌜ Starts x y z (tablesBefore points corners neighbours) (now (work .entry)) (now (corrections .entry))
+        r (tablesAfter points corners neighbours) (now (work .exit)) (now (corrections .exit)) ⌝ }
 {
-    started(start(x, y, z, points, corners, neighbours, work))
+    started(start(x, y, z, points, corners, neighbours, work, corrections))
 }
 
 #[no_mangle]
@@ -140,15 +147,16 @@ pub extern "C" fn gantry_insert(
     corners: &mut [u16],
     neighbours: &mut [u16],
     work: &mut [u16],
+    corrections: &mut [i32],
     x: u32,
     y: u32,
     z: u32,
 ) -> GantryInserted
-    ensures { λ r. ⌜ Inserts mesh (tablesBefore points corners neighbours) (now (work .entry)) (position x y z) sphere
-        r (tablesAfter points corners neighbours) (now (work .exit)) ⌝ }
+    ensures { λ r. ⌜ Inserts mesh (tablesBefore points corners neighbours) (now (work .entry)) (now (corrections .entry)) (position x y z) sphere
+        r (tablesAfter points corners neighbours) (now (work .exit)) (now (corrections .exit)) ⌝ }
 {
     let q = Position { x: x, y: y, z: z };
-    let answer = insert(mesh, points, corners, neighbours, work, q);
+    let answer = insert(mesh, points, corners, neighbours, work, corrections, q);
     inserted(mesh, answer)
 }
 
@@ -159,16 +167,26 @@ pub extern "C" fn gantry_insert_answers(
     corners: &mut [u16],
     neighbours: &mut [u16],
     work: &mut [u16],
+    corrections: &mut [i32],
     answers: &[u8],
     x: u32,
     y: u32,
     z: u32,
 ) -> GantryInserted
-    ensures { λ r. ⌜ Inserts mesh (tablesBefore points corners neighbours) (now (work .entry)) (position x y z) (handed (now (answers .entry)))
-        r (tablesAfter points corners neighbours) (now (work .exit)) ⌝ }
+    ensures { λ r. ⌜ Inserts mesh (tablesBefore points corners neighbours) (now (work .entry)) (now (corrections .entry)) (position x y z) (handed (now (answers .entry)))
+        r (tablesAfter points corners neighbours) (now (work .exit)) (now (corrections .exit)) ⌝ }
 {
     let q = Position { x: x, y: y, z: z };
-    let answer = insert_answers(mesh, points, corners, neighbours, work, answers, q);
+    let answer = insert_answers(
+        mesh,
+        points,
+        corners,
+        neighbours,
+        work,
+        corrections,
+        answers,
+        q,
+    );
     inserted(mesh, answer)
 }
 
@@ -179,16 +197,26 @@ pub extern "C" fn gantry_look(
     corners: &[u16],
     neighbours: &[u16],
     work: &mut [u16],
+    corrections: &[i32],
     marks: &mut [u8],
     x: u32,
     y: u32,
     z: u32,
 ) -> GantryLooked
-    ensures { λ r. ⌜ Looks mesh (tablesBefore points corners neighbours) (now (work .entry)) (position x y z) (now (marks .entry))
+    ensures { λ r. ⌜ Looks mesh (tablesBefore points corners neighbours) (now (work .entry)) (now (corrections .entry)) (position x y z) (now (marks .entry))
         r (tablesAfter points corners neighbours) (now (work .exit)) (now (marks .exit)) ⌝ }
 {
     let q = Position { x: x, y: y, z: z };
-    looked(look(mesh, points, corners, neighbours, work, marks, q))
+    looked(look(
+        mesh,
+        points,
+        corners,
+        neighbours,
+        work,
+        corrections,
+        marks,
+        q,
+    ))
 }
 
 #[no_mangle]
@@ -198,16 +226,26 @@ pub extern "C" fn gantry_insert_marked(
     corners: &mut [u16],
     neighbours: &mut [u16],
     work: &mut [u16],
+    corrections: &mut [i32],
     marks: &[u8],
     x: u32,
     y: u32,
     z: u32,
 ) -> GantryInserted
-    ensures { λ r. ⌜ InsertsMarked mesh (tablesBefore points corners neighbours) (now (work .entry)) (position x y z) (now (marks .entry))
-        r (tablesAfter points corners neighbours) (now (work .exit)) ⌝ }
+    ensures { λ r. ⌜ InsertsMarked mesh (tablesBefore points corners neighbours) (now (work .entry)) (now (corrections .entry)) (position x y z) (now (marks .entry))
+        r (tablesAfter points corners neighbours) (now (work .exit)) (now (corrections .exit)) ⌝ }
 {
     let q = Position { x: x, y: y, z: z };
-    let answer = insert_marked(mesh, points, corners, neighbours, work, marks, q);
+    let answer = insert_marked(
+        mesh,
+        points,
+        corners,
+        neighbours,
+        work,
+        corrections,
+        marks,
+        q,
+    );
     inserted(mesh, answer)
 }
 
@@ -218,12 +256,13 @@ pub extern "C" fn gantry_insert_list(
     corners: &mut [u16],
     neighbours: &mut [u16],
     work: &mut [u16],
+    corrections: &mut [i32],
     nodes: &[u32],
 ) -> GantryListed
-    ensures { λ r. ⌜ Lists mesh (tablesBefore points corners neighbours) (now (work .entry)) (now (nodes .entry))
-        r (tablesAfter points corners neighbours) (now (work .exit)) ⌝ }
+    ensures { λ r. ⌜ Lists mesh (tablesBefore points corners neighbours) (now (work .entry)) (now (corrections .entry)) (now (nodes .entry))
+        r (tablesAfter points corners neighbours) (now (work .exit)) (now (corrections .exit)) ⌝ }
 {
-    let answer = insert_list(mesh, points, corners, neighbours, work, nodes);
+    let answer = insert_list(mesh, points, corners, neighbours, work, corrections, nodes);
     listed(mesh, answer)
 }
 
@@ -243,6 +282,55 @@ pub extern "C" fn gantry_locate(
 {
     let q = Position { x: x, y: y, z: z };
     located(locate(mesh, points, corners, neighbours, work, q))
+}
+
+#[no_mangle]
+pub extern "C" fn gantry_correction(
+    mesh: Mesh,
+    points: &[u32],
+    corners: &[u16],
+    neighbours: &[u16],
+    work: &mut [u16],
+    corrections: &[i32],
+    x: u32,
+    y: u32,
+    z: u32,
+) -> GantryCorrected
+    ensures { λ r. ⌜ Corrects mesh (tablesBefore points corners neighbours) (now (work .entry)) (now (corrections .entry)) (position x y z)
+        r (now (work .exit)) ⌝ }
+{
+    let q = Position { x: x, y: y, z: z };
+    corrected(correction(mesh, points, corners, neighbours, work, corrections, q))
+}
+
+#[no_mangle]
+pub extern "C" fn gantry_set_correction(
+    mesh: Mesh,
+    points: &[u32],
+    corners: &[u16],
+    neighbours: &[u16],
+    work: &mut [u16],
+    corrections: &mut [i32],
+    point: u32,
+    x: i32,
+    y: i32,
+    z: i32,
+) -> u8
+    ensures { λ r. ⌜ (r ≡ setRefusal mesh (tablesBefore points corners neighbours) (now (corrections .entry)) (length (now (work .entry))) point record { x = x; y = y; z = z })
+        × (now (corrections .exit) ≡ setTable mesh (tablesBefore points corners neighbours) (now (corrections .entry)) (length (now (work .entry))) point record { x = x; y = y; z = z })
+        × (now (work .exit) ≡ cleared (now (work .entry))) ⌝ }
+{
+    let d = Correction { x: x, y: y, z: z };
+    set_correction(
+        mesh,
+        points,
+        corners,
+        neighbours,
+        work,
+        corrections,
+        point,
+        d,
+    )
 }
 
 #[no_mangle]

@@ -7,6 +7,8 @@ use mathlib.Core.Path.{_≡_, sym, ap, _∙_, subst}
 use native.Mathlib.Omega.{arith}
 use borrow.Author.Tests.{eqb-false}
 use lib.Dec.{eqb}
+use lib.IntN.{ℤ}
+use lib.ListN.{length}
 use Rattle.arith.proofs.Flags.{split}
 use Rattle.geometry.specs.declared.Position.{Position}
 use Rattle.insphere.specs.declared.Sphere.the-variants.{Inside, Outside}
@@ -14,50 +16,28 @@ use Rattle.insphere.specs.declared.Tested.{Tested}
 use Rattle.insphere.specs.declared.Tested.the-variants.{Answered, Refused}
 use Rattle.insphere.specs.Sphere.{sphereSum, sphereAnswer, sphereRefusal, sphereCall, CarriesNear}
 use Rattle.mesh.specs.declared.Mesh.{Mesh}
-use Rattle.mesh.specs.declared.Started.{Started}
 use Rattle.mesh.specs.Tables.{Tables}
-use Rattle.mesh.specs.Start.{StartLeaves}
-use Rattle.cavity.specs.Answers.{Answers}
-use Rattle.insertion.specs.declared.Inserted.{Inserted}
 use Rattle.insertion.specs.declared.Looked.{Looked}
-use Rattle.insertion.specs.declared.Listed.{Listed}
-use Rattle.insertion.specs.Insertion.{InsertLeaves}
-use Rattle.insertion.specs.Look.{LookLeaves, MarkedLeaves}
-use Rattle.insertion.specs.List.{ListLeaves}
+use Rattle.corrections.specs.Calls.{Left, Leaves, lookWith, LookLeft}
 use Rattle.nodefile.specs.declared.Read.{Read}
 use Rattle.nodefile.specs.declared.Written.{Written}
 use Rattle.nodefile.specs.Read.{ReadLeaves}
 use Rattle.nodefile.specs.Write.{WriteLeaves}
 use Rattle.merging.specs.Merge.{MergeLeaves}
-use Rattle.gantry_numbers.specs.declared.GantryStarted.{GantryStarted}
-use Rattle.gantry_numbers.specs.declared.GantryInserted.{GantryInserted}
 use Rattle.gantry_numbers.specs.declared.GantryLooked.{GantryLooked}
-use Rattle.gantry_numbers.specs.declared.GantryListed.{GantryListed}
 use Rattle.gantry_numbers.specs.declared.GantrySphere.{GantrySphere}
 use Rattle.gantry_numbers.specs.declared.GantryRead.{GantryRead}
 use Rattle.gantry_numbers.specs.declared.GantryWritten.{GantryWritten}
-use Rattle.gantry_numbers.specs.Numbers.{startedOf, insertedOf, lookedOf, listedOf, sphereOf, testedOf, readOf, writtenOf}
-use Rattle.gantry_numbers.specs.Promises.{Starts, Inserts, Looks, InsertsMarked, Lists, Reads, Writes, Merges, GivesNear}
+use Rattle.gantry_numbers.specs.Numbers.{lookedOf, sphereOf, testedOf, readOf, writtenOf}
+use Rattle.gantry_numbers.specs.Promises.{Gives, Looks, Reads, Writes, Merges, GivesNear}
 
-pub starts : {X Y Z : ℕ} {t t′ : Tables} {ws ws′ : List ℕ} {s : Started} {r : GantryStarted} →
-    StartLeaves X Y Z t ws s t′ ws′ → r ≡ startedOf s → Starts X Y Z t ws r t′ ws′
-starts l e = record { answer = e ∙ ap startedOf (l .answer); tables = l .tables; work = l .work }
+pub gives : {Answer Numbers : Type 0} (of : Answer → Numbers) {l : Left Answer} {ws ws′ : List ℕ} {t′ : Tables} {cs′ : List ℤ} {s : Answer} {r : Numbers} →
+    Leaves l ws s t′ cs′ ws′ → r ≡ of s → Gives of l ws r t′ ws′ cs′
+gives of k e = record { answer = e ∙ ap of (k .answer); tables = k .tables; work = k .work; corrections = k .corrections }
 
-pub inserts : {m : Mesh} {t t′ : Tables} {ws ws′ : List ℕ} {p : Position} {a : Answers} {s : Inserted} {r : GantryInserted} →
-    InsertLeaves m t ws p a s t′ ws′ → r ≡ insertedOf m s → Inserts m t ws p a r t′ ws′
-inserts {m} l e = record { answer = e ∙ ap (insertedOf m) (l .answer); tables = l .tables; work = l .work }
-
-pub looks : {m : Mesh} {t t′ : Tables} {ws ws′ marks marks′ : List ℕ} {p : Position} {s : Looked} {r : GantryLooked} →
-    LookLeaves m t ws p marks s t′ ws′ marks′ → r ≡ lookedOf s → Looks m t ws p marks r t′ ws′ marks′
-looks l e = record { answer = e ∙ ap lookedOf (l .answer); tables = l .tables; marks-left = l .marks-left; work = l .work }
-
-pub inserts-marked : {m : Mesh} {t t′ : Tables} {ws ws′ marks : List ℕ} {p : Position} {s : Inserted} {r : GantryInserted} →
-    MarkedLeaves m t ws p marks s t′ ws′ → r ≡ insertedOf m s → InsertsMarked m t ws p marks r t′ ws′
-inserts-marked {m} l e = record { answer = e ∙ ap (insertedOf m) (l .answer); tables = l .tables; work = l .work }
-
-pub lists : {m : Mesh} {t t′ : Tables} {ws ws′ ns : List ℕ} {s : Listed} {r : GantryListed} →
-    ListLeaves m t ws ns s t′ ws′ → r ≡ listedOf m s → Lists m t ws ns r t′ ws′
-lists {m} l e = record { answer = e ∙ ap (listedOf m) (l .answer); tables = l .tables; work = l .work }
+pub looks : {m : Mesh} {t t′ : Tables} {cs : List ℤ} {ws ws′ marks marks′ : List ℕ} {p : Position} {s : Looked} {r : GantryLooked} →
+    LookLeft (lookWith m t cs (length ws) p marks) ws s t′ ws′ marks′ → r ≡ lookedOf s → Looks m t ws cs p marks r t′ ws′ marks′
+looks k e = record { answer = e ∙ ap lookedOf (k .answer); tables = k .tables; marks-left = k .marks-left; work = k .work }
 
 pub writes : {m : Mesh} {t : Tables} {ws ws′ out out′ : List ℕ} {s : Written} {r : GantryWritten} →
     WriteLeaves m t ws out s ws′ out′ → r ≡ writtenOf s → Writes m t ws out r ws′ out′

@@ -1,5 +1,6 @@
 -- The numbers of the C interface (include/gantry.h): what C is given for each case of an answer. The refusal is 0 where the call was
 -- accepted, and a field that a refusal leaves without meaning is 0.
+use lib.IntN.{pos}
 use Rattle.insphere.specs.declared.Sphere.{Sphere}
 use Rattle.insphere.specs.declared.Sphere.the-variants.{Inside, Outside}
 use Rattle.insphere.specs.declared.Tested.{Tested}
@@ -16,6 +17,8 @@ use Rattle.insertion.specs.declared.Looked.{Looked}
 use Rattle.insertion.specs.declared.Looked.the-variants.{Reported, Refused as LookRefused}
 use Rattle.insertion.specs.declared.Listed.{Listed}
 use Rattle.insertion.specs.declared.Listed.the-variants.{Ended, Stopped, Refused as ListRefused}
+use Rattle.corrections.specs.declared.Corrected.{Corrected}
+use Rattle.corrections.specs.declared.Corrected.the-variants.{By, Refused as NotCorrected}
 use Rattle.nodefile.specs.declared.Read.{Read}
 use Rattle.nodefile.specs.declared.Read.the-variants.{Nodes, Refused as ReadRefused}
 use Rattle.nodefile.specs.declared.Written.{Written}
@@ -25,6 +28,7 @@ use Rattle.gantry_numbers.specs.declared.GantryInserted.{GantryInserted}
 use Rattle.gantry_numbers.specs.declared.GantryLooked.{GantryLooked}
 use Rattle.gantry_numbers.specs.declared.GantryListed.{GantryListed}
 use Rattle.gantry_numbers.specs.declared.GantryLocated.{GantryLocated}
+use Rattle.gantry_numbers.specs.declared.GantryCorrected.{GantryCorrected}
 use Rattle.gantry_numbers.specs.declared.GantrySphere.{GantrySphere}
 use Rattle.gantry_numbers.specs.declared.GantryRead.{GantryRead}
 use Rattle.gantry_numbers.specs.declared.GantryWritten.{GantryWritten}
@@ -66,6 +70,10 @@ listedOf m (ListRefused e) = record { refusal = e; mesh = m; place = 0 }
 unfoldable pub locatedOf : Located → GantryLocated
 locatedOf (Cell c) = record { refusal = 0; cell = c }
 locatedOf (LocateRefused e) = record { refusal = e; cell = 0 }
+
+unfoldable pub correctedOf : Corrected → GantryCorrected
+correctedOf (By d) = record { refusal = 0; x = d .x; y = d .y; z = d .z }
+correctedOf (NotCorrected e) = record { refusal = e; x = pos 0; y = pos 0; z = pos 0 }
 
 -- 1 inside, 2 outside; document 02 §2 retired 3, close
 unfoldable pub sphereOf : Sphere → GantrySphere

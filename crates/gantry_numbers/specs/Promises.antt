@@ -9,12 +9,9 @@ use Rattle.rounding.specs.Whole.{Near}
 use Rattle.geometry.specs.declared.Position.{Position}
 use Rattle.mesh.specs.declared.Mesh.{Mesh}
 use Rattle.mesh.specs.Tables.{Tables, cleared}
-use Rattle.mesh.specs.Start.{startAnswer, startTables}
 use Rattle.locate.specs.Locate.{locateCall}
 use Rattle.cavity.specs.Answers.{Answers}
-use Rattle.insertion.specs.Insertion.{insertCall}
-use Rattle.insertion.specs.List.{listCall}
-use Rattle.insertion.specs.Look.{lookCall, markedCall}
+use Rattle.corrections.specs.Calls.{Left, startWith, insertWith, markedWith, listWith, lookWith, correctionCall}
 use Rattle.nodefile.specs.Read.{readAnswer, readOutput}
 use Rattle.nodefile.specs.Write.{writeAnswer, writeOutput}
 use Rattle.merging.specs.Merge.{mergeAnswer, mergeOutput}
@@ -23,40 +20,43 @@ use Rattle.gantry_numbers.specs.declared.GantryInserted.{GantryInserted}
 use Rattle.gantry_numbers.specs.declared.GantryLooked.{GantryLooked}
 use Rattle.gantry_numbers.specs.declared.GantryListed.{GantryListed}
 use Rattle.gantry_numbers.specs.declared.GantryLocated.{GantryLocated}
+use Rattle.gantry_numbers.specs.declared.GantryCorrected.{GantryCorrected}
 use Rattle.gantry_numbers.specs.declared.GantrySphere.{GantrySphere}
 use Rattle.gantry_numbers.specs.declared.GantryRead.{GantryRead}
 use Rattle.gantry_numbers.specs.declared.GantryWritten.{GantryWritten}
-use Rattle.gantry_numbers.specs.Numbers.{startedOf, insertedOf, lookedOf, listedOf, locatedOf, readOf, writtenOf}
+use Rattle.gantry_numbers.specs.Numbers.{startedOf, insertedOf, lookedOf, listedOf, locatedOf, correctedOf, readOf, writtenOf}
 
--- tables t and a work area ws are lent, and left as t′ and ws′; a refusal, too, is one of the definitions' cases
-pub record Starts (X Y Z : ℕ) (t : Tables) (ws : List ℕ) (r : GantryStarted) (t′ : Tables) (ws′ : List ℕ) : Type 0 where
-  pub answer : r ≡ startedOf (startAnswer X Y Z t (length ws))
-  pub tables : t′ ≡ startTables X Y Z t (length ws)
+-- tables, a work area ws and corrections are lent, and left as t′, ws′ and cs′: by a call that leaves l, with its answer's numbers. A refusal, too,
+-- is one of the definitions' cases.
+pub record Gives {Answer Numbers : Type 0} (of : Answer → Numbers) (l : Left Answer) (ws : List ℕ)
+    (r : Numbers) (t′ : Tables) (ws′ : List ℕ) (cs′ : List ℤ) : Type 0 where
+  pub answer : r ≡ of (l .answer)
+  pub tables : t′ ≡ l .tables
   pub work : ws′ ≡ cleared ws
+  pub corrections : cs′ ≡ l .corrections
 
-pub record Inserts (m : Mesh) (t : Tables) (ws : List ℕ) (p : Position) (a : Answers)
-    (r : GantryInserted) (t′ : Tables) (ws′ : List ℕ) : Type 0 where
-  pub answer : r ≡ insertedOf m (insertCall m t (length ws) p a .answer)
-  pub tables : t′ ≡ insertCall m t (length ws) p a .tables
-  pub work : ws′ ≡ cleared ws
+abbrev pub Starts : ℕ → ℕ → ℕ → Tables → List ℕ → List ℤ → GantryStarted → Tables → List ℕ → List ℤ → Type 0
+Starts X Y Z t ws cs = Gives startedOf (startWith X Y Z t cs (length ws)) ws
 
--- marks are lent too, and left as marks′
-pub record Looks (m : Mesh) (t : Tables) (ws : List ℕ) (p : Position) (marks : List ℕ)
+abbrev pub Inserts : Mesh → Tables → List ℕ → List ℤ → Position → Answers → GantryInserted → Tables → List ℕ → List ℤ → Type 0
+Inserts m t ws cs p a = Gives (insertedOf m) (insertWith m t cs (length ws) p a) ws
+
+abbrev pub InsertsMarked : Mesh → Tables → List ℕ → List ℤ → Position → List ℕ → GantryInserted → Tables → List ℕ → List ℤ → Type 0
+InsertsMarked m t ws cs p marks = Gives (insertedOf m) (markedWith m t cs (length ws) p marks) ws
+
+abbrev pub Lists : Mesh → Tables → List ℕ → List ℤ → List ℕ → GantryListed → Tables → List ℕ → List ℤ → Type 0
+Lists m t ws cs ns = Gives (listedOf m) (listWith m t cs (length ws) ns) ws
+
+-- marks are lent too, and left as marks′; the corrections for reading alone
+pub record Looks (m : Mesh) (t : Tables) (ws : List ℕ) (cs : List ℤ) (p : Position) (marks : List ℕ)
     (r : GantryLooked) (t′ : Tables) (ws′ marks′ : List ℕ) : Type 0 where
-  pub answer : r ≡ lookedOf (lookCall m t (length ws) p marks .answer)
-  pub tables : t′ ≡ lookCall m t (length ws) p marks .tables
-  pub marks-left : marks′ ≡ lookCall m t (length ws) p marks .marks
+  pub answer : r ≡ lookedOf (lookWith m t cs (length ws) p marks .answer)
+  pub tables : t′ ≡ lookWith m t cs (length ws) p marks .tables
+  pub marks-left : marks′ ≡ lookWith m t cs (length ws) p marks .marks
   pub work : ws′ ≡ cleared ws
 
-pub record InsertsMarked (m : Mesh) (t : Tables) (ws : List ℕ) (p : Position) (marks : List ℕ)
-    (r : GantryInserted) (t′ : Tables) (ws′ : List ℕ) : Type 0 where
-  pub answer : r ≡ insertedOf m (markedCall m t (length ws) p marks .answer)
-  pub tables : t′ ≡ markedCall m t (length ws) p marks .tables
-  pub work : ws′ ≡ cleared ws
-
-pub record Lists (m : Mesh) (t : Tables) (ws ns : List ℕ) (r : GantryListed) (t′ : Tables) (ws′ : List ℕ) : Type 0 where
-  pub answer : r ≡ listedOf m (listCall m t (length ws) ns .answer)
-  pub tables : t′ ≡ listCall m t (length ws) ns .tables
+pub record Corrects (m : Mesh) (t : Tables) (ws : List ℕ) (cs : List ℤ) (p : Position) (r : GantryCorrected) (ws′ : List ℕ) : Type 0 where
+  pub answer : r ≡ correctedOf (correctionCall m t cs (length ws) p)
   pub work : ws′ ≡ cleared ws
 
 pub record Locates (m : Mesh) (t : Tables) (ws : List ℕ) (p : Position) (r : GantryLocated) (ws′ : List ℕ) : Type 0 where

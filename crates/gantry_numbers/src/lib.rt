@@ -2,7 +2,8 @@
 // field order and layouts are fixed.
 
 ghost use mathlib.Core.Path.{_≡_};
-ghost use Rattle.gantry_numbers.specs.Numbers.{noMesh, startedOf, insertedOf, lookedOf, listedOf, locatedOf, sphereOf, testedOf, readOf, writtenOf};
+ghost use Rattle.gantry_numbers.specs.Numbers.{noMesh, startedOf, insertedOf, lookedOf, listedOf, locatedOf, correctedOf, sphereOf, testedOf, readOf, writtenOf};
+use corrections::Corrected;
 use insertion::Inserted;
 use insertion::Listed;
 use insertion::Looked;
@@ -55,6 +56,14 @@ pub struct GantryListed {
 pub struct GantryLocated {
     pub refusal: u8,
     pub cell: u32,
+}
+
+#[repr(C)]
+pub struct GantryCorrected {
+    pub refusal: u8,
+    pub x: i32,
+    pub y: i32,
+    pub z: i32,
 }
 
 // Answers 1 inside, 2 outside.
@@ -190,6 +199,25 @@ pub fn located(answer: Located) -> GantryLocated
         Located::Refused(number) => GantryLocated {
             refusal: number,
             cell: 0,
+        },
+    }
+}
+
+pub fn corrected(answer: Corrected) -> GantryCorrected
+    ensures { λ r. ⌜ r ≡ correctedOf answer ⌝ }
+{
+    match answer {
+        Corrected::By(correction) => GantryCorrected {
+            refusal: 0,
+            x: correction.x,
+            y: correction.y,
+            z: correction.z,
+        },
+        Corrected::Refused(number) => GantryCorrected {
+            refusal: number,
+            x: 0,
+            y: 0,
+            z: 0,
         },
     }
 }

@@ -20,7 +20,7 @@ use Rattle.cavity.specs.Answers.{Answers, answersOf}
 use Rattle.cavity.specs.Cavity.{inSet, cavitySize}
 use Rattle.cavity.specs.Inner.Star.{StarShaped}
 use Rattle.cavity.specs.Inner.{inside, setOf, Listed, CavityFound}
-use Rattle.cavity.specs.Inner.Growth.{Empty}
+use Rattle.cavity.specs.Inner.Growth.{Empty, Unstamped}
 use Rattle.star.specs.Star.{usedAfter, headOf, chainAfter, star}
 use Rattle.star.specs.Inner.{Slotted, Supply, Replacing}
 use Rattle.star.proofs.Inserting.{room-is}
@@ -30,7 +30,7 @@ use Rattle.insertion.specs.declared.Inserted.{Inserted}
 use Rattle.insertion.specs.declared.Inserted.the-variants.{Accepted, Refused}
 use Rattle.insertion.specs.Insertion.{firstCavity, lastCavity, cellsMade, nodeRefusal, reportOf, insertedMesh, insertedTables}
 use Rattle.insertion.specs.Look.{marksOf, cavityMarks, beginsWith}
-use Rattle.insertion.specs.Inner.{Scratch, NodeOf, Admitted, Starable, Tested, reportWith, acceptedWith, stateMarks, marksAllow, refusalWith, AttemptLeaves}
+use Rattle.insertion.specs.Inner.{Scratch, NodeOf, Admitted, Starable, Tested, Starred, reportWith, acceptedWith, stateMarks, marksAllow, refusalWith, AttemptLeaves}
 use Rattle.insertion.proofs.Refusals.{marked-refuses, marked-passes, unless-accepted, unless-refused}
 use Rattle.insertion.proofs.Admission.{H, valid, node-mesh, cells≤, used≤, node-used≤, points≤, next-point, star-shaped, made-is, last-is, before≤, no-refusal}
 
@@ -44,7 +44,7 @@ attempt-refused asked marks m t w p a e d =
 
 -- ---- a node that no test refuses
 
-module _ {m : Mesh} {t : Tables} {bytes : List ℕ} {d : Node} {st li fa de nu : List ℕ} {r : Found} (S : Starable m t bytes d st li fa de nu r) where
+module _ {m : Mesh} {t : Tables} {bytes : List ℕ} {d : Node} {st li fa nu : List ℕ} {r : Found} (S : Starable m t bytes d st li fa nu r) where
   abbrev p : Position
   p = d .position
 
@@ -92,8 +92,8 @@ module _ {m : Mesh} {t : Tables} {bytes : List ℕ} {d : Node} {st li fa de nu :
   listed = record { t = t; n = d .used; few = node-used≤ N; list = S .found .list (S .some) }
 
   -- what is lent, for the next node
-  pub scratch-after : {st′ ex : List ℕ} → Empty st′ li → length ex ≡ 1024 → Scratch (m .points + 1) st′ li fa de ex nu
-  scratch-after E h = record { empty = E; codes = S .found .codes; notes = S .notes; exposed = h; ranks = S .ranks-long }
+  pub scratch-after : {st′ de ex : List ℕ} → Empty st′ li → Unstamped (m .points + 1) de → length ex ≡ 1024 → Scratch (m .points + 1) st′ li fa de ex nu
+  scratch-after E u h = record { empty = E; codes = S .found .codes; notes = u; exposed = h; ranks = S .ranks-long }
 
   -- what the numbers of the new cells are taken from
   unfoldable pub supply : Supply (t .neighbours) (d .used) (m .chain) (r .made)
@@ -180,6 +180,16 @@ module _ {m : Mesh} {t : Tables} {bytes : List ℕ} {d : Node} {st li fa de nu :
     unfolding acceptedWith insertedMesh
     answer-is = λ i. Accepted record { x = m .x; y = m .y; z = m .z; points = m .points + 1; cells = m .cells - after-is i + star-is i; chain = chain-is i; used = used-is i } (report-is i)
 
+    pub starred : {g : Inserted} {t′ : Tables} → g ≡ acceptedWith m r chain used →
+        t′ ≡ star (chainOf m t) t (d .used) (d .position) (d .points) (setOf (d .used) st) → Starred m t (d .position) (answersOf (d .handed) bytes) g t′
+    unfolding insertedTables
+    starred eg et = record {
+      answer = eg ∙ answer-is;
+      tables =
+          et ∙ (ap₂ (λ k n. star ch t n p k (setOf n st)) (N .points-are) (N .used-are) ∙
+          ap (star ch t n p (m .points)) (last-is A (S .found) (S .some)));
+    }
+
   -- the states of the cells give the marks of a look
   pub marks-are : stateMarks (d .used) st ≡ cavityMarks m t p a
   unfolding cavityMarks setOf
@@ -198,21 +208,12 @@ module _ {m : Mesh} {t : Tables} {bytes : List ℕ} {d : Node} {st li fa de nu :
         go false e = rw e none-refused
         go true e = marked-passes m t p a marks none-refused ∙ rw (e, marks-are)
 
-    pub accepted-leaves : allowed ≡ true → {chain used : ℕ} → chain ≡ chainAfter (chainOf m t) t (d .used) (d .position) (setOf (d .used) st) →
-        used ≡ usedAfter (chainOf m t) (d .used) (r .made) → {g : Inserted} {t′ : Tables} → g ≡ acceptedWith m r chain used →
-        t′ ≡ star (chainOf m t) t (d .used) (d .position) (d .points) (setOf (d .used) st) →
+    pub accepted-leaves : allowed ≡ true → {g : Inserted} {t′ : Tables} → Starred m t (d .position) (answersOf (d .handed) bytes) g t′ →
         AttemptLeaves asked marks m t (d .work) (d .position) (answersOf (d .handed) bytes) record { refusal = 0; inserted = g } t′
-    unfolding insertedTables
-    accepted-leaves y ec eu eg et =
+    accepted-leaves y G =
         let z : refusalWith asked marks m t (d .work) p a ≡ 0 = refusal-is ∙ rw y in
         let q = unless-accepted m t p a z in
-        record {
-          refusal = sym z;
-          answer = eg ∙ (answer-is ec eu ∙ sym (ap (λ l. l .answer) q));
-          tables =
-              et ∙ (ap₂ (λ k n. star ch t n p k (setOf n st)) (N .points-are) (N .used-are) ∙
-              (ap (star ch t n p (m .points)) (last-is A (S .found) (S .some)) ∙ sym (ap (λ l. l .tables) q)));
-        }
+        record { refusal = sym z; answer = G .answer ∙ sym (ap (λ l. l .answer) q); tables = G .tables ∙ sym (ap (λ l. l .tables) q) }
 
     pub marks-refused : allowed ≡ false →
         AttemptLeaves asked marks m t (d .work) (d .position) (answersOf (d .handed) bytes) record { refusal = 14; inserted = Refused 14 } t

@@ -88,6 +88,8 @@ relisted H E = record {
   coded = H .coded;
   before-is = H .before-is;
   after-is = H .after-is;
+  holder< = H .holder<;
+  holder-holds = H .holder-holds;
   least-is = H .least-is;
 }
 
@@ -145,7 +147,7 @@ module _ {m : Mesh} {t : Tables} {bytes : List ℕ} {d : Node} (N : NodeOf m t b
 
   pub refused-early : {r : ℕ} → PointTests m t (d .position) r → r ≢ 0 → {e : Extent} {k : ℕ} {st li fa de nu : List ℕ} →
       Tested m t bytes d st li fa de nu record { refusal = r; extent = e; made = k }
-  refused-early T z = record { refusal-is = sym (T .refuses z (d .work) (answersOf (d .handed) bytes)); starable = λ e. absurd (z e) }
+  refused-early T z = record { refusal-is = sym (T .refuses z (d .work) (answersOf (d .handed) bytes)); starable = λ e. absurd (z e); notes = λ e. absurd (z e) }
 
 module _ {m : Mesh} {t : Tables} {bytes : List ℕ} {d : Node} (A : Admitted m t bytes d) where
   abbrev p : Position
@@ -179,6 +181,7 @@ module _ {m : Mesh} {t : Tables} {bytes : List ℕ} {d : Node} (A : Admitted m t
     unheld-node e = record {
       refusal-is = sym (is-unheld m t (d .work) p a (A .place .box) (A .place .free) (A .place .next) (H .held ∙ ap not (eq-eqb (r .before) 0 e)));
       starable = λ z. absurd (omega arith);
+      notes = λ z. absurd (omega arith);
     }
 
     module _ (some : r .before ≢ 0) where
@@ -235,6 +238,7 @@ module _ {m : Mesh} {t : Tables} {bytes : List ℕ} {d : Node} (A : Admitted m t
           go (inl q) = record {
             refusal-is = rw q (sym (is-cells-full m t (d .work) p a (A .place .box) (A .place .free) (A .place .next) held-node (sym full-is ∙ q)));
             starable = λ z. absurd (eight (rw q at z));
+            notes = λ z. u;
           }
             where
               eight : _≡_ {A = ℕ} 8 0 → ⊥
@@ -249,9 +253,9 @@ module _ {m : Mesh} {t : Tables} {bytes : List ℕ} {d : Node} (A : Admitted m t
               rising = L;
               ranked = N;
               ranks-long = l;
-              notes = u;
               room = ltb-false (cellCapacity t (d .work)) (d .cells + madeCount t (d .used) p (setOf (d .used) st)) q;
             };
+            notes = λ z. u;
           }
 
 -- ---- the codes

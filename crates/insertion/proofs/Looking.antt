@@ -3,7 +3,7 @@ use Prim.Native.Nat.{ℕ, _+_, _≤_, _<_}
 use mathlib.Core.Bool.{Bool, true, false, _&&_, cond, true≢false}
 use mathlib.Core.List.{List, [], _∷_}
 use mathlib.Core.Logic.{_≢_, _⊎_, inl, inr}
-use mathlib.Core.Path.{_≡_, refl, sym, ap, _∙_, subst}
+use mathlib.Core.Path.{_≡_, refl, sym, ap, _∙_}
 use native.Mathlib.Numerals.{add-one}
 use native.Mathlib.Omega.{arith}
 use borrow.Author.Tests.{eq-eqb, ne-eqb, lt-ltb, le-ltb}
@@ -15,24 +15,19 @@ use Rattle.arith.proofs.Flags.{split, and-right, fails}
 use Rattle.arith.proofs.Tables.{tabulate-length, tabulate-at}
 use Rattle.geometry.specs.declared.Position.{Position}
 use Rattle.mesh.specs.declared.Mesh.{Mesh}
-use Rattle.mesh.specs.Tables.{Tables, cleared}
+use Rattle.mesh.specs.Tables.{Tables}
 use Rattle.mesh.specs.Start.{over}
-use Rattle.mesh.specs.Refusal.{meshRefusal}
 use Rattle.cavity.specs.declared.Node.{Node}
 use Rattle.cavity.specs.Answers.{sphere, answersOf}
 use Rattle.cavity.specs.Inner.{inside}
 use Rattle.insertion.specs.declared.Found.{Found}
 use Rattle.insertion.specs.declared.Report.{Report}
-use Rattle.insertion.specs.declared.Attempt.{Attempt}
-use Rattle.insertion.specs.declared.Inserted.the-variants.{Refused}
-use Rattle.insertion.specs.declared.Looked.{Looked}
 use Rattle.insertion.specs.declared.Looked.the-variants.{Reported, Refused as LookRefused}
-use Rattle.insertion.specs.Insertion.{nodeRefusal, fewerBytes, insertRefusal, reportOf}
-use Rattle.insertion.specs.Look.{marksOf, cavityMarks, lookRefusal, lookUnless, lookCall, LookLeaves, beginsWith, markedCall, MarkedLeaves}
-use Rattle.insertion.specs.Inner.{Starable, Tested, reportWith, stateMarks, marksAllow, AttemptLeaves, NodeLooked}
-use Rattle.insertion.proofs.Refusals.{look-refuses, look-passes, marked-refuses, unless-refused, first-three, left-to-node}
+use Rattle.insertion.specs.Insertion.{nodeRefusal, insertRefusal, reportOf}
+use Rattle.insertion.specs.Look.{marksOf, cavityMarks, lookRefusal, lookUnless, lookCall, beginsWith}
+use Rattle.insertion.specs.Inner.{Starable, Tested, reportWith, stateMarks, marksAllow, NodeLooked}
+use Rattle.insertion.proofs.Refusals.{look-refuses, look-passes}
 use Rattle.insertion.proofs.Acceptance.{none-refused, report-is, marks-are}
-use Rattle.insertion.proofs.Leaving.{same-work}
 
 -- ---- bytes
 
@@ -102,7 +97,7 @@ module _ (n : ℕ) (st : List ℕ) where
 -- ---- the calls
 
 -- a look leaves the tables
-unless-stays : (r : ℕ) (m : Mesh) (t : Tables) (p : Position) (marks : List ℕ) → lookUnless r m t p marks .tables ≡ t
+pub unless-stays : (r : ℕ) (m : Mesh) (t : Tables) (p : Position) (marks : List ℕ) → lookUnless r m t p marks .tables ≡ t
 unfolding lookUnless
 unless-stays r m t p marks = go (split (eqb r 0))
   where
@@ -113,48 +108,6 @@ unless-stays r m t p marks = go (split (eqb r 0))
 pub tables-stay : (m : Mesh) (t : Tables) (w : ℕ) (p : Position) (marks : List ℕ) → lookCall m t w p marks .tables ≡ t
 unfolding lookCall
 tables-stay m t w p marks = unless-stays (lookRefusal (insertRefusal m t w p sphere) m marks) m t p marks
-
--- ---- their contracts
-
-module _ (m : Mesh) (t : Tables) (ws : List ℕ) {ws′ : List ℕ} (c : ws′ ≡ cleared ws) (p : Position) (marks : List ℕ) {k : ℕ} (e : k ≡ meshRefusal m t (length ws′) false) where
-  tested : meshRefusal m t (length ws) false ≡ k
-  tested = sym (e ∙ ap (λ w. meshRefusal m t w false) (same-work ws c))
-
-  -- tests 1 to 3 refuse it
-  refused : k ≢ 0 → insertRefusal m t (length ws) p sphere ≡ k
-  unfolding fewerBytes
-  refused d = first-three m t (length ws) p sphere tested d
-
-  -- or let it pass
-  passes : k ≡ 0 → insertRefusal m t (length ws) p sphere ≡ nodeRefusal m t (length ws) p sphere
-  unfolding fewerBytes
-  passes z = left-to-node m t (length ws) p sphere (tested ∙ z)
-
-  pub look-refused-at : k ≢ 0 → LookLeaves m t ws p marks (LookRefused k) t ws′ marks
-  unfolding lookCall lookUnless
-  look-refused-at d =
-      let q = look-refuses m marks (refused d) d in
-      record { answer = rw (q, ne-eqb k 0 d); tables = rw (q, ne-eqb k 0 d); marks-left = rw (q, ne-eqb k 0 d); work = c }
-
-  pub look-at : k ≡ 0 → {r : Looked} {t′ : Tables} {marks′ : List ℕ} → NodeLooked m t (length ws′) p marks r t′ marks′ → LookLeaves m t ws p marks r t′ ws′ marks′
-  unfolding lookCall
-  look-at z {r} {t′} {marks′} L =
-      let N = subst (λ w. NodeLooked m t w p marks r t′ marks′) (same-work ws c) L in
-      let q = passes z in
-      record { answer = rw q (N .answer); tables = rw q (N .tables); marks-left = rw q (N .marks-left); work = c }
-
-  pub marked-refused-at : k ≢ 0 → MarkedLeaves m t ws p marks (Refused k) t ws′
-  unfolding markedCall
-  marked-refused-at d =
-      let q = unless-refused m t p sphere (marked-refuses m t p sphere marks (refused d) d) d in
-      record { answer = sym (ap (λ l. l .answer) q); tables = sym (ap (λ l. l .tables) q); work = c }
-
-  pub marked-at : k ≡ 0 → {g : Attempt} {t′ : Tables} → AttemptLeaves true marks m t (length ws′) p sphere g t′ → MarkedLeaves m t ws p marks (g .inserted) t′ ws′
-  unfolding markedCall
-  marked-at z {g} {t′} L =
-      let N = subst (λ w. AttemptLeaves true marks m t w p sphere g t′) (same-work ws c) L in
-      let q = passes z in
-      record { answer = rw q (N .answer); tables = rw q (N .tables); work = c }
 
 -- ---- a look after tests 1 to 3: a node by the sphere test, with marks to write
 
@@ -168,7 +121,7 @@ looked-refused {m} {t} {d = d} {r = r} T own marks z =
     let f = ne-eqb (r .refusal) 0 z in
     record { answer = rw (q, f); tables = rw (q, f); marks-left = rw (q, f) }
 
-module _ {m : Mesh} {t : Tables} {bytes : List ℕ} {d : Node} {st li fa de nu : List ℕ} {r : Found} (S : Starable m t bytes d st li fa de nu r)
+module _ {m : Mesh} {t : Tables} {bytes : List ℕ} {d : Node} {st li fa nu : List ℕ} {r : Found} (S : Starable m t bytes d st li fa nu r)
     (own : answersOf (d .handed) bytes ≡ sphere) (marks : List ℕ) where
   abbrev p : Position
   p = d .position

@@ -16,7 +16,7 @@ use Rattle.geometry.specs.declared.Position.{Position}
 use Rattle.geometry.specs.Volume.{InBox, inBox, samePosition}
 use Rattle.geometry.proofs.Ranges.{box-in}
 use Rattle.mesh.specs.declared.Mesh.{Mesh}
-use Rattle.mesh.specs.Tables.{Tables, pointCapacity, cellCapacity, cleared, point}
+use Rattle.mesh.specs.Tables.{Tables, pointCapacity, cellCapacity, point}
 use Rattle.mesh.specs.Check.{legalBox, isMesh}
 use Rattle.mesh.specs.Start.{short}
 use Rattle.mesh.specs.Refusal.{meshRefusal}
@@ -24,9 +24,8 @@ use Rattle.mesh.proofs.Checked.{same-position-yes}
 use Rattle.locate.specs.Locate.{holds}
 use Rattle.cavity.specs.Answers.{Answers}
 use Rattle.insertion.specs.declared.Report.{Report}
-use Rattle.insertion.specs.declared.Inserted.{Inserted}
 use Rattle.insertion.specs.declared.Inserted.the-variants.{Accepted, Refused}
-use Rattle.insertion.specs.Insertion.{cellsMade, nodeRefusal, fewerBytes, firstOf, insertRefusal, reportOf, insertedMesh, insertedTables, insertUnless, insertNode, insertCall, InsertLeaves}
+use Rattle.insertion.specs.Insertion.{cellsMade, nodeRefusal, fewerBytes, firstOf, insertRefusal, reportOf, insertedMesh, insertedTables, insertUnless, insertNode, insertCall}
 use Rattle.insertion.specs.Look.{cavityMarks, lookRefusal, beginsWith, markedRefusal}
 
 -- a test of a chain of refusals that comes to 0
@@ -38,7 +37,7 @@ test-to-zero {b} {k} {r} h e = go b e
     go false q = (refl, q)
 
 -- the numbers of a chain are bounded by each
-chain≤ : (b : Bool) {k r n : ℕ} → k ≤ n → r ≤ n → cond b k r ≤ n
+pub chain≤ : (b : Bool) {k r n : ℕ} → k ≤ n → r ≤ n → cond b k r ≤ n
 chain≤ true h l = h
 chain≤ false h l = l
 
@@ -145,7 +144,7 @@ module _ (m : Mesh) (t : Tables) (w : ℕ) (p : Position) (a : Answers) where
   abbrev held : Bool
   held = anyBelow (m .used) (holds t p)
 
-  abbrev cellsFull : Bool
+  abbrev pub cellsFull : Bool
   cellsFull = ltb (cellCapacity t w) (m .cells + cellsMade m t p a)
 
   -- ---- from the tests to the number
@@ -258,17 +257,3 @@ module _ (m : Mesh) (t : Tables) (w : ℕ) (p : Position) (a : Answers) where
   pub refused-number : {e : ℕ} → Refused e ≡ insertNode m t w p a .answer → nodeRefusal m t w p a ≡ e
   unfolding insertNode
   refused-number q = refused-unless m t p a q .1
-
--- ---- the contract of a call
-
-module _ (m : Mesh) (t : Tables) (ws ws′ : List ℕ) (p : Position) (a : Answers) (c : ws′ ≡ cleared ws) where
-  pub refused-leaves : {k : ℕ} → k ≡ meshRefusal m t (length ws) (fewerBytes a (m .used)) → k ≢ 0 → InsertLeaves m t ws p a (Refused k) t ws′
-  refused-leaves e d =
-      let q = call-refused m t (length ws) p a (sym e) d in
-      record { answer = sym (ap (λ l. l .answer) q); tables = sym (ap (λ l. l .tables) q); work = c }
-
-  pub node-leaves : {r : Inserted} {t′ : Tables} → meshRefusal m t (length ws) (fewerBytes a (m .used)) ≡ 0 →
-      r ≡ insertNode m t (length ws) p a .answer → t′ ≡ insertNode m t (length ws) p a .tables → InsertLeaves m t ws p a r t′ ws′
-  node-leaves e f g =
-      let q = call-is-node m t (length ws) p a e in
-      record { answer = f ∙ sym (ap (λ l. l .answer) q); tables = g ∙ sym (ap (λ l. l .tables) q); work = c }

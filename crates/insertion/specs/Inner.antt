@@ -24,10 +24,8 @@ use Rattle.insertion.specs.declared.Report.{Report}
 use Rattle.insertion.specs.declared.Attempt.{Attempt}
 use Rattle.insertion.specs.declared.Inserted.{Inserted}
 use Rattle.insertion.specs.declared.Inserted.the-variants.{Accepted}
-use Rattle.insertion.specs.declared.Listed.{Listed}
 use Rattle.insertion.specs.declared.Looked.{Looked}
-use Rattle.insertion.specs.Insertion.{Result, nodeRefusal, insertUnless}
-use Rattle.insertion.specs.List.{listedCount, insertFrom}
+use Rattle.insertion.specs.Insertion.{Result, nodeRefusal, reportOf, insertedMesh, insertedTables, insertUnless}
 use Rattle.insertion.specs.Look.{marksOf, lookRefusal, LookResult, lookUnless, beginsWith, markedRefusal}
 
 -- what is lent to a node for its own use: states that are all 0, notes below its stamp, and room for the rest, which may hold anything
@@ -67,7 +65,7 @@ pub record Admitted (m : Mesh) (t : Tables) (bytes : List ℕ) (d : Node) : Type
   pub place : FreePlace m t (d .position)
 
 -- and tests 7 and 8: its cavity is found and listed by rising numbers, the new cells are ranked, and there is room for them
-pub record Starable (m : Mesh) (t : Tables) (bytes : List ℕ) (d : Node) (st li fa de nu : List ℕ) (r : Found) : Type 0 where
+pub record Starable (m : Mesh) (t : Tables) (bytes : List ℕ) (d : Node) (st li fa nu : List ℕ) (r : Found) : Type 0 where
   pub admitted : Admitted m t bytes d
   pub found : CavityFound (answersOf (d .handed) bytes) t (d .position) (d .used) st li fa (r .extent)
   pub some : r .extent .before ≢ 0
@@ -75,7 +73,6 @@ pub record Starable (m : Mesh) (t : Tables) (bytes : List ℕ) (d : Node) (st li
   pub rising : Rising (d .used) (setOf (d .used) st) li (r .extent .after)
   pub ranked : Ranked t (d .used) (d .position) (setOf (d .used) st) nu
   pub ranks-long : length nu ≡ 4096
-  pub notes : Unstamped (m .points + 1) de
   pub room : d .cells + r .made ≤ cellCapacity t (d .work)
 
 -- test 8 of a node with the cavity s, of extent e
@@ -90,7 +87,8 @@ starFound t d s e =
 -- what tests 4 to 8 answer
 pub record Tested (m : Mesh) (t : Tables) (bytes : List ℕ) (d : Node) (st li fa de nu : List ℕ) (r : Found) : Type 0 where
   pub refusal-is : r .refusal ≡ nodeRefusal m t (d .work) (d .position) (answersOf (d .handed) bytes)
-  pub starable : r .refusal ≡ 0 → Starable m t bytes d st li fa de nu r
+  pub starable : r .refusal ≡ 0 → Starable m t bytes d st li fa nu r
+  pub notes : r .refusal ≡ 0 → Unstamped (m .points + 1) de
 
 -- the report of a node with this cavity and star
 unfoldable pub reportWith : Mesh → Found → Report
@@ -103,6 +101,16 @@ acceptedWith m r chain used =
     Accepted
     record { x = m .x; y = m .y; z = m .z; points = m .points + 1; cells = m .cells - r .extent .after + r .made; chain = chain; used = used }
     (reportWith m r)
+
+-- the same for some answers
+pub record SomeStarable (m : Mesh) (t : Tables) (d : Node) (st li fa nu : List ℕ) (r : Found) : Type 0 where
+  pub bytes : List ℕ
+  pub starable : Starable m t bytes d st li fa nu r
+
+-- what a node that no test refuses answers and leaves
+pub record Starred (m : Mesh) (t : Tables) (p : Position) (a : Answers) (r : Inserted) (t′ : Tables) : Type 0 where
+  pub answer : r ≡ Accepted (insertedMesh m t p a) (reportOf m t p a)
+  pub tables : t′ ≡ insertedTables m t p a
 
 -- ---- marks
 
@@ -138,10 +146,3 @@ pub record NodeLooked (m : Mesh) (t : Tables) (w : ℕ) (p : Position) (marks : 
   pub answer : r ≡ lookNode m t w p marks .answer
   pub tables : t′ ≡ lookNode m t w p marks .tables
   pub marks-left : marks′ ≡ lookNode m t w p marks .marks
-
--- ---- lists
-
--- what a list after tests 1 to 3 answers and leaves
-pub record NodesLeave (m : Mesh) (t : Tables) (w : ℕ) (ns : List ℕ) (r : Listed) (t′ : Tables) : Type 0 where
-  pub answer : r ≡ insertFrom (listedCount ns) 0 m t w ns .answer
-  pub tables : t′ ≡ insertFrom (listedCount ns) 0 m t w ns .tables

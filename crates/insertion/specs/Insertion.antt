@@ -2,14 +2,13 @@
 use Prim.Native.Nat.{ℕ, _+_, _-_}
 use mathlib.Core.Bool.{Bool, false, not, cond}
 use mathlib.Core.List.{List}
-use mathlib.Core.Path.{_≡_}
 use lib.Dec.{ltb, eqb}
 use lib.ListN.{length}
 use Rattle.arith.specs.Table.{anyBelow}
 use Rattle.geometry.specs.declared.Position.{Position}
 use Rattle.geometry.specs.Volume.{inBox, samePosition}
 use Rattle.mesh.specs.declared.Mesh.{Mesh}
-use Rattle.mesh.specs.Tables.{Tables, pointCapacity, cellCapacity, cleared, point}
+use Rattle.mesh.specs.Tables.{Tables, pointCapacity, cellCapacity, point}
 use Rattle.mesh.specs.Chain.{chainOf}
 use Rattle.mesh.specs.Refusal.{meshRefusal}
 use Rattle.locate.specs.Locate.{holds}
@@ -102,10 +101,3 @@ insertNode m t w p a = insertUnless (nodeRefusal m t w p a) m t p a
 -- the call
 unfoldable pub insertCall : Mesh → Tables → ℕ → Position → Answers → Result Inserted
 insertCall m t w p a = insertUnless (insertRefusal m t w p a) m t p a
-
--- what inserting p answers and leaves in the tables t and the work area ws
-pub record InsertLeaves (m : Mesh) (t : Tables) (ws : List ℕ) (p : Position) (a : Answers)
-    (r : Inserted) (t′ : Tables) (ws′ : List ℕ) : Type 0 where
-  pub answer : r ≡ insertCall m t (length ws) p a .answer
-  pub tables : t′ ≡ insertCall m t (length ws) p a .tables
-  pub work : ws′ ≡ cleared ws

@@ -2,13 +2,12 @@
 use Prim.Native.Nat.{ℕ}
 use mathlib.Core.Bool.{Bool, true, false, _&&_, cond}
 use mathlib.Core.List.{List, [], _∷_}
-use mathlib.Core.Path.{_≡_}
 use lib.Dec.{ltb, eqb}
 use lib.ListN.{length}
 use Rattle.arith.specs.Table.{tabulate}
 use Rattle.geometry.specs.declared.Position.{Position}
 use Rattle.mesh.specs.declared.Mesh.{Mesh}
-use Rattle.mesh.specs.Tables.{Tables, cleared}
+use Rattle.mesh.specs.Tables.{Tables}
 use Rattle.mesh.specs.Start.{over}
 use Rattle.cavity.specs.Answers.{Answers, sphere}
 use Rattle.cavity.specs.Cavity.{inSet}
@@ -49,14 +48,6 @@ lookUnless r m t p marks =
 unfoldable pub lookCall : Mesh → Tables → ℕ → Position → List ℕ → LookResult
 lookCall m t w p marks = lookUnless (lookRefusal (insertRefusal m t w p sphere) m marks) m t p marks
 
--- what looking at p answers and leaves in the tables t, the work area ws and the marks
-pub record LookLeaves (m : Mesh) (t : Tables) (ws : List ℕ) (p : Position) (marks : List ℕ)
-    (r : Looked) (t′ : Tables) (ws′ marks′ : List ℕ) : Type 0 where
-  pub answer : r ≡ lookCall m t (length ws) p marks .answer
-  pub tables : t′ ≡ lookCall m t (length ws) p marks .tables
-  pub marks-left : marks′ ≡ lookCall m t (length ws) p marks .marks
-  pub work : ws′ ≡ cleared ws
-
 -- bytes begins with all of expected; what follows is not read
 unfoldable pub beginsWith : List ℕ → List ℕ → Bool
 beginsWith [] bytes = true
@@ -71,10 +62,3 @@ markedRefusal r m t p a marks = firstOf r (cond (beginsWith (cavityMarks m t p a
 -- 'Its result equals the plain insertion.'
 unfoldable pub markedCall : Mesh → Tables → ℕ → Position → List ℕ → Result Inserted
 markedCall m t w p marks = insertUnless (markedRefusal (insertRefusal m t w p sphere) m t p sphere marks) m t p sphere
-
--- what inserting p with marks answers and leaves in the tables t and the work area ws
-pub record MarkedLeaves (m : Mesh) (t : Tables) (ws : List ℕ) (p : Position) (marks : List ℕ)
-    (r : Inserted) (t′ : Tables) (ws′ : List ℕ) : Type 0 where
-  pub answer : r ≡ markedCall m t (length ws) p marks .answer
-  pub tables : t′ ≡ markedCall m t (length ws) p marks .tables
-  pub work : ws′ ≡ cleared ws

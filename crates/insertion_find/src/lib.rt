@@ -41,6 +41,7 @@ pub fn find(
                 before: 0,
                 after: 0,
                 least: 0.0,
+                holder: 0,
             },
             made: 0,
         };

@@ -21,7 +21,7 @@ use star_numbers::rank_cells;
 use star_numbers::sort_cells;
 
 // A point has code 0 just where it lies at the node.
-fn some_zero(codes: &[u8], np: usize) -> bool
+pub fn some_zero(codes: &[u8], np: usize) -> bool
     requires { ⌜ np ≤ length (now codes) ⌝ }
     ensures { λ r. ⌜ r ≡ someZero (now (codes .entry)) np ⌝ }
 {

@@ -28,13 +28,13 @@ module _ (m : Mesh) (t : Tables) (w : ℕ) where
     outside e b = rw (e, b)
 
     -- what is found is the used length just where no cell holds q
-    none-held : firstHolder t (m .used) q ≡ m .used → anyBelow (m .used) (holds t q) ≡ false
+    pub none-held : firstHolder t (m .used) q ≡ m .used → anyBelow (m .used) (holds t q) ≡ false
     none-held e = fails (anyBelow (m .used) (holds t q)) (λ h. by (any-found (m .used) (holds t q) h))
       where
         by : Found (m .used) (holds t q) → ⊥
         by r = let l = holder-is-first t q (m .used) (r .at) (r .below) (r .passes) .cell< in absurd (omega (arith, l, e))
 
-    some-held : firstHolder t (m .used) q ≢ m .used → anyBelow (m .used) (holds t q) ≡ true
+    pub some-held : firstHolder t (m .used) q ≢ m .used → anyBelow (m .used) (holds t q) ≡ true
     some-held d = go (first-or-none t q (m .used))
       where
         go : ((b : ℕ) × IsFirst t q (m .used) b) ⊎ NoneHolds t q (m .used) → anyBelow (m .used) (holds t q) ≡ true

@@ -36,7 +36,7 @@ fn earlier(k: [u16; 4], c: usize, candidate: Candidate) -> Candidate
 }
 
 // Of the cells among n entries that hold q, the one whose sorted corners come first; n where none does.
-fn first_holder(points: &[u32], corners: &[u16], np: usize, n: usize, q: Position) -> usize
+pub fn first_holder(points: &[u32], corners: &[u16], np: usize, n: usize, q: Position) -> usize
     requires { ⌜ Solid (now points) (now corners) np n × InRange q ⌝ }
     ensures { λ r. ⌜ r ≡ firstHolder (tables (now (points .entry)) (now (corners .entry)) []) n q ⌝ }
 {

@@ -8,6 +8,7 @@ use native.Mathlib.Decide.{ℕ-discrete}
 use native.Mathlib.Omega.{arith}
 use borrow.Author.Tests.{eq-eqb, ne-eqb, eqb-true, lt-ltb, ltb-true}
 use lib.Dec.{ltb, eqb}
+use lib.IntN.{ℤ}
 use lib.ListN.{length, getD, take}
 use lib.Seq.{take-at, getD-take}
 use Rattle.arith.proofs.Flags.{split, clash, and-left, and-right, and-intro, fails}
@@ -24,14 +25,16 @@ use Rattle.insertion.specs.declared.Report.{Report}
 use Rattle.insertion.specs.declared.Inserted.{Inserted}
 use Rattle.insertion.specs.declared.Inserted.the-variants.{Accepted, Refused}
 use Rattle.insertion.specs.declared.Looked.the-variants.{Reported, Refused as LookRefused}
-use Rattle.insertion.specs.Insertion.{lastCavity, nodeRefusal, fewerBytes, firstOf, insertRefusal, reportOf, insertedMesh, insertedTables, insertUnless, insertCall, InsertLeaves}
-use Rattle.insertion.specs.Look.{cavityMarks, lookRefusal, lookUnless, lookCall, LookLeaves, beginsWith, markedRefusal, markedCall, MarkedLeaves}
-use Rattle.insertion.proofs.Refusals.{first-refuses, first-passes, look-refuses, look-passes, look-passed, marked-refuses, marked-passes, unless-accepted, unless-refused, refused-unless, up-to-eight, node-fits, tests-passed}
+use Rattle.insertion.specs.Insertion.{lastCavity, nodeRefusal, fewerBytes, firstOf, insertRefusal, reportOf, insertedMesh, insertedTables, insertUnless, insertCall}
+use Rattle.insertion.specs.Look.{cavityMarks, lookRefusal, lookUnless, lookCall, beginsWith, markedRefusal, markedCall}
+use Rattle.insertion.proofs.Refusals.{first-refuses, first-passes, look-refuses, look-passes, look-passed, marked-refuses, marked-passes, marked-passed, unless-accepted, unless-refused, accepted-unless, refused-unless, up-to-eight, node-fits, tests-passed}
 use Rattle.insertion.proofs.Growing.{star-shaped}
 use Rattle.insertion.proofs.Looking.{marks-length, mark-at, tables-stay}
 use Rattle.located.specs.Claim.{Stands, KeepsNumber}
 use Rattle.located.specs.Parked.{OutsideCavity}
 use Rattle.located.proofs.Parked.{outside-keeps, stands-outside, inside-freed}
+use Rattle.corrections.specs.Calls.{Leaves, withTable, leftUnless, insertWith, markedWith, lookWith, LookLeft}
+use Rattle.corrected_calls.proofs.Plain.{Standing, stands, stood}
 use Rattle.look_first.specs.Claim.{counted, AfterLook, RefusedAlike}
 
 -- ---- bytes
@@ -248,16 +251,42 @@ look-first m t w p marks r q =
 pub refused-as-insertion : (m : Mesh) (t : Tables) (w : ℕ) (p : Position) (marks : List ℕ) → RefusedAlike m t w p marks
 refused-as-insertion m t w p marks = refused-alike m t w p marks
 
--- the same in the words of the calls' contracts: a look that answers a report, then an insertion with the tables and marks that it left, and
--- as much work area. It leaves what the plain insertion leaves in the tables that the look was lent.
-pub look-then-insert : (m : Mesh) (t t₁ t₂ : Tables) (ws ws′ vs vs′ : List ℕ) (p : Position) (marks marks′ : List ℕ) (r : Report) (g : Inserted) →
-    LookLeaves m t ws p marks (Reported r) t₁ ws′ marks′ → MarkedLeaves m t₁ vs p marks′ g t₂ vs′ → length vs ≡ length ws →
-    InsertLeaves m t vs p sphere g t₂ vs′ × ((m′ : Mesh) × (g ≡ Accepted m′ r))
-look-then-insert m t t₁ t₂ ws ws′ vs vs′ p marks marks′ r g L N₁ e =
-    let N = subst (λ x. MarkedLeaves m x vs p marks′ g t₂ vs′) (L .tables ∙ tables-stay m t (length ws) p marks) N₁ in
-    let A = look-first m t (length ws) p marks r (sym (L .answer)) in
-    let q : marks′ ≡ lookCall m t (length ws) p marks .marks = L .marks-left in
-    let s = A .same-marks marks′ (ap (counted m) q) (length vs) in (
-      record { answer = N .answer ∙ ap (λ l. l .answer) s; tables = N .tables ∙ ap (λ l. l .tables) s; work = N .work },
-      (A .mesh, N .answer ∙ (ap₂ (λ w l. markedCall m t w p l .answer) e q ∙ A .goes-in)),
+-- a look over a table of corrections that answers a report: the table refuses nothing
+look-stands : (m : Mesh) (t : Tables) (cs : List ℤ) (w : ℕ) (p : Position) (marks : List ℕ) (r : Report) → lookWith m t cs w p marks .answer ≡ Reported r → Standing m t cs
+unfolding lookWith lookUnless
+look-stands m t cs w p marks r e = stood m t cs _ (go (ℕ-discrete refusal 0)) .0
+  where
+    refusal : ℕ
+    refusal = withTable m t cs (lookRefusal (insertRefusal m t w p sphere) m marks)
+
+    go : Dec (refusal ≡ 0) → refusal ≡ 0
+    go (yes z) = z
+    go (no d) = let f : LookRefused refusal ≡ Reported r = rw (ne-eqb refusal 0 d) at e in let n : _≡_ {A = ℕ} 0 1 = cc in absurd (omega arith)
+
+-- the same in the words of the calls' contracts, over a table of corrections: a look that answers a report, then an insertion with the tables and
+-- marks that it left, and as much work area. It leaves what the plain insertion leaves in the tables that the look was lent.
+pub look-then-insert : (m : Mesh) (t t₁ t₂ : Tables) (cs cs′ : List ℤ) (ws ws′ vs vs′ : List ℕ) (p : Position) (marks marks′ : List ℕ) (r : Report) (g : Inserted) →
+    LookLeft (lookWith m t cs (length ws) p marks) ws (Reported r) t₁ ws′ marks′ → Leaves (markedWith m t₁ cs (length vs) p marks′) vs g t₂ cs′ vs′ → length vs ≡ length ws →
+    Leaves (insertWith m t cs (length vs) p sphere) vs g t₂ cs′ vs′ × ((m′ : Mesh) × (g ≡ Accepted m′ r))
+unfolding lookWith markedWith insertWith leftUnless lookCall markedCall insertCall
+look-then-insert m t t₁ t₂ cs cs′ ws ws′ vs vs′ p marks marks′ r g L N₁ e =
+    let S = look-stands m t cs (length ws) p marks r (sym (L .answer)) in
+    let ql = stands m t cs S (lookRefusal (insertRefusal m t (length ws) p sphere) m marks) in
+    let same : t₁ ≡ t = L .tables ∙ rw ql (tables-stay m t (length ws) p marks) in
+    let N = subst (λ x. Leaves (markedWith m x cs (length vs) p marks′) vs g t₂ cs′ vs′) same N₁ in
+    let A = look-first m t (length ws) p marks r (sym (L .answer ∙ rw ql)) in
+    let q : marks′ ≡ lookCall m t (length ws) p marks .marks = L .marks-left ∙ rw ql in
+    let qm = stands m t cs S (markedRefusal (insertRefusal m t (length vs) p sphere) m t p sphere marks′) in
+    let qi = stands m t cs S (insertRefusal m t (length vs) p sphere) in
+    let s = A .same-marks marks′ (ap (counted m) q) (length vs) in
+    let goes : markedCall m t (length vs) p marks′ .answer ≡ Accepted (A .mesh) r = ap₂ (λ w l. markedCall m t w p l .answer) e q ∙ A .goes-in in
+    let z : markedRefusal (insertRefusal m t (length vs) p sphere) m t p sphere marks′ ≡ 0 = accepted-unless m t p sphere (sym goes) .0 in
+    let y : insertRefusal m t (length vs) p sphere ≡ 0 = marked-passed m t p sphere marks′ z .0 in (
+      record {
+        answer = N .answer ∙ rw (qm, qi) (ap (λ l. l .answer) s);
+        tables = N .tables ∙ rw (qm, qi) (ap (λ l. l .tables) s);
+        corrections = N .corrections ∙ rw (qm, qi, z, y);
+        work = N .work;
+      },
+      (A .mesh, N .answer ∙ rw qm goes),
     )

@@ -35,7 +35,7 @@ const fn entry(
 }
 
 #[rustfmt::skip]
-pub const ENTRIES: [Entry; 28] = [
+pub const ENTRIES: [Entry; 29] = [
     entry("random", "620 random nodes", Some(2.0), || list(nodes::random(620))),
     entry("lattice", "lattice 9×9×9", Some(2.0), || list(nodes::lattice(9))),
     entry("lattice-8", "lattice 9×9×9 in a cube of side 8", Some(2.0), || list(nodes::small_lattice(9))),
@@ -49,6 +49,7 @@ pub const ENTRIES: [Entry; 28] = [
     entry("locate", "locate", Some(2.0), || locate(anywhere)),
     entry("locate-0", "locate inside cell 0", Some(2.0), || locate(inside_cell_0)),
     entry("locate-point", "locate at the point of most cells", Some(2.0), || locate(at_a_point)),
+    entry("correction", "correction of a position", Some(2.0), correction),
     entry("look", "look", Some(2.0), look),
     entry("insert", "insert a node", Some(2.0), || insert(false)),
     entry("insert-marked", "insert a node with the marks of a look", Some(2.0), || insert(true)),
@@ -117,6 +118,7 @@ enum Kind {
     List(Set),
     Check,
     Locate(Vec<Position>),
+    Correction(Vec<Position>),
     /// Marks go to the bytes.
     Look(Vec<Position>),
     /// Nodes into the same mesh, each with the marks of a look at it, or none.
@@ -191,6 +193,18 @@ fn locate(positions: fn(&Loaded) -> Vec<Position>) -> Work {
     let positions = positions(&loaded(&mut work));
     work.units = positions.len();
     work.kind = Kind::Locate(positions);
+    work
+}
+
+/// At the positions that are located, between any corrections.
+fn correction() -> Work {
+    let mut work = call(Kind::Check);
+    let positions = anywhere(&loaded(&mut work));
+    for (k, number) in work.tables.corrections.iter_mut().enumerate() {
+        *number = (k * 77 % 2_001) as i32 - 1_000;
+    }
+    work.units = positions.len();
+    work.kind = Kind::Correction(positions);
     work
 }
 
@@ -274,6 +288,13 @@ impl Work {
                 let mut last = Answer::Checked(false);
                 for &p in positions {
                     last = Answer::Located(build.locate(mesh, tables, p));
+                }
+                last
+            }
+            Kind::Correction(positions) => {
+                let mut last = Answer::Checked(false);
+                for &p in positions {
+                    last = Answer::Corrected(build.correction(mesh, tables, p));
                 }
                 last
             }

@@ -4,6 +4,7 @@
 
 pub mod check;
 pub mod commands;
+pub mod corrections;
 pub mod fields;
 pub mod grid;
 pub mod input;

@@ -1,16 +1,19 @@
 //! A grid as a picture: the edges of its cells in an axonometric view, the near ones over the far ones, with the numbers of
-//! points and cells where there are few. With a look, the cells that its node would replace stand out.
+//! points and cells where there are few. With a look, the cells that its node would replace stand out; with corrections, points
+//! have arrows.
 
+mod arrows;
 mod replaced;
 
 use std::fmt::Write;
 
-use gantry::{Cell, Position};
+use gantry::{Cell, Correction, Position};
 
 use crate::counted;
 use crate::grid::{edges, Grid};
 use crate::labels::{Page, Point2, Rectangle};
 use crate::look::Replacing;
+use arrows::{arrows, Arrow};
 
 /// Pixels of the picture's longer side, without the margin, for few points.
 const SIZE: f64 = 440.0;
@@ -172,13 +175,19 @@ struct Picture<'a> {
     view: View,
     /// The far ones first.
     edges: Vec<[usize; 2]>,
+    /// Of corrections.
+    arrows: Vec<Arrow>,
     text: String,
     /// Labels that there was no place for.
     left_out: usize,
 }
 
 impl<'a> Picture<'a> {
-    fn new(grid: &'a Grid, replacing: Option<&'a Replacing>) -> Picture<'a> {
+    fn new(
+        grid: &'a Grid,
+        replacing: Option<&'a Replacing>,
+        corrections: &[Correction],
+    ) -> Picture<'a> {
         let node = replacing.map(|replacing| replacing.look.position());
         let points: Vec<Position> = grid.points.iter().copied().chain(node).collect();
         let view = view(&points, stretch(grid.sides));
@@ -189,6 +198,7 @@ impl<'a> Picture<'a> {
             replacing,
             view,
             edges,
+            arrows: arrows(corrections, grid.sides),
             text: String::new(),
             left_out: 0,
         }
@@ -294,11 +304,12 @@ impl<'a> Picture<'a> {
             let half = self.radius(point) + 1.0;
             Rectangle::round(points[point].at, half, half)
         };
-        let line = |&edge: &[usize; 2]| self.view.places(edge);
+        let lines = self.edges.iter().map(|&edge| self.view.places(edge));
+        let arrows = self.arrows.iter().map(|arrow| self.arrow_line(arrow));
         Page::new(
             edge,
             (0..points.len()).map(dot).collect(),
-            self.edges.iter().map(line).collect(),
+            lines.chain(arrows).collect(),
         )
     }
 
@@ -396,9 +407,14 @@ fn escaped(words: &str) -> String {
 }
 
 impl Grid {
-    /// With a caption that has the lines `more`.
-    pub fn to_svg(&self, more: &[String], replacing: Option<&Replacing>) -> String {
-        let mut picture = Picture::new(self, replacing);
+    /// With a caption that has the lines `more`, and arrows for the points' corrections that are not 0.
+    pub fn to_svg(
+        &self,
+        more: &[String],
+        replacing: Option<&Replacing>,
+        corrections: &[Correction],
+    ) -> String {
+        let mut picture = Picture::new(self, replacing, corrections);
         let edges = picture.edges.clone();
         match replacing {
             None => picture.draw_edges(&edges),
@@ -407,11 +423,16 @@ impl Grid {
         for point in 0..self.points.len() {
             picture.draw_point(point);
         }
+        for arrow in picture.arrows.clone() {
+            picture.draw_arrow(&arrow);
+        }
         picture.draw_labels();
         if let Some(replacing) = replacing {
             picture.draw_node(replacing.look.report().point);
         }
-        let caption = picture.caption(more);
+        let corrected = arrows::summary(corrections);
+        let more: Vec<String> = more.iter().cloned().chain(corrected).collect();
+        let caption = picture.caption(&more);
         picture.draw_caption(&caption);
         let longest = caption
             .iter()

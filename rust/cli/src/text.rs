@@ -40,15 +40,20 @@ pub const FAULTS_TOLD: usize = 20;
 
 /// The nodes of a text, or what is wrong with it, a message a fault.
 pub fn read(bytes: &[u8], reading: Reading) -> Result<Read, Vec<String>> {
+    let mut reader = Reader::new(reading);
+    for (number, line) in lines(bytes).iter().enumerate() {
+        reader.read_line(number + 1, line);
+    }
+    reader.end()
+}
+
+/// A byte order mark is skipped.
+pub fn lines(bytes: &[u8]) -> Vec<String> {
     let bytes = bytes.strip_prefix(b"\xef\xbb\xbf").unwrap_or(bytes);
     let text = String::from_utf8_lossy(bytes);
     // A lone carriage return ends a line too, as on old Macintoshes.
     let text = text.replace("\r\n", "\n").replace('\r', "\n");
-    let mut reader = Reader::new(reading);
-    for (number, line) in text.split('\n').enumerate() {
-        reader.read_line(number + 1, line);
-    }
-    reader.end()
+    text.split('\n').map(str::to_string).collect()
 }
 
 /// A box, with its corners by place, and the line that it was read from.

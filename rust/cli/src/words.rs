@@ -16,6 +16,7 @@ pub enum Choice {
     Sides,
     LeaveOut,
     Look,
+    Corrections,
 }
 
 impl Choice {
@@ -26,6 +27,7 @@ impl Choice {
             "--box" => Some(Choice::Sides),
             "--leave-out" => Some(Choice::LeaveOut),
             "--look" => Some(Choice::Look),
+            "--corrections" => Some(Choice::Corrections),
             _ => None,
         }
     }
@@ -53,6 +55,10 @@ impl Choice {
                 "--look x y z",
                 "show the cells that a node there would replace; it does not go in",
             ],
+            Choice::Corrections => [
+                "--corrections FILE",
+                "show the corrections in FILE, a line 'point dx dy dz' for each point that has one",
+            ],
         }
     }
 }
@@ -66,6 +72,7 @@ pub struct Words {
     pub sides: Option<Position>,
     pub leave_out: bool,
     pub look: Option<[i64; 3]>,
+    pub corrections: Option<OsString>,
 }
 
 impl Words {
@@ -105,6 +112,7 @@ impl Words {
         match choice {
             Choice::Output => self.output = Some(file(value)?),
             Choice::Listing => self.listing = Some(file(value)?),
+            Choice::Corrections => self.corrections = Some(file(value)?),
             Choice::Sides | Choice::LeaveOut | Choice::Look if value.is_some() => {
                 return Err(Failure::Usage(format!("{name} takes no =")));
             }

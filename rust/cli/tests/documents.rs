@@ -2,7 +2,7 @@
 
 use std::ffi::OsString;
 
-use gantry::{Mesh, CELL_LIMIT, NODE_LIMIT, SIDE_LIMIT};
+use gantry::{Mesh, CELL_LIMIT, CORRECTION_LIMIT, NODE_LIMIT, SIDE_LIMIT};
 use gantry_cli::grid::Grid;
 use gantry_cli::input::INPUT_LIMIT;
 use gantry_cli::listing::FILE_LIMIT;
@@ -21,7 +21,7 @@ fn the_changelog_begins_with_this_version() {
 #[test]
 fn the_manual_s_box_is_the_command_s() {
     let mesh = Mesh::start(4, 4, 4).unwrap();
-    let picture = Grid::from(&mesh).to_svg(&[], None);
+    let picture = Grid::from(&mesh).to_svg(&[], None, &[]);
     // Not assert_eq, which would print both.
     assert!(picture == include_str!("../../../docs/box.svg"));
 }
@@ -58,6 +58,7 @@ fn the_manual_has_the_limits() {
         SIDE_LIMIT as usize,
         NODE_LIMIT,
         CELL_LIMIT,
+        CORRECTION_LIMIT as usize,
         FILE_LIMIT,
         INPUT_LIMIT,
     ] {

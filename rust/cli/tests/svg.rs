@@ -14,13 +14,13 @@ fn built(sides: Position, nodes: &[Position]) -> Mesh {
 }
 
 fn picture(sides: Position, nodes: &[Position]) -> String {
-    Grid::from(&built(sides, nodes)).to_svg(&[], None)
+    Grid::from(&built(sides, nodes)).to_svg(&[], None, &[])
 }
 
 /// With the look that it is of.
 fn picture_of_look(mesh: &mut Mesh, node: Position) -> (String, Replacing) {
     let replacing = Replacing::of(mesh, node).unwrap();
-    let text = Grid::from(&*mesh).to_svg(&[replacing.summary()], Some(&replacing));
+    let text = Grid::from(&*mesh).to_svg(&[replacing.summary()], Some(&replacing), &[]);
     (text, replacing)
 }
 
@@ -64,7 +64,7 @@ fn cell_numbers(text: &str) -> BTreeSet<usize> {
 fn cells_have_their_own_numbers() {
     let mut mesh = built([4; 3], &[[1, 2, 3], [2, 2, 0]]);
     assert!(mesh.used() > mesh.cells().len());
-    let text = Grid::from(&mesh).to_svg(&[], None);
+    let text = Grid::from(&mesh).to_svg(&[], None, &[]);
     assert_eq!(
         cell_numbers(&text),
         mesh.cells().map(|cell| cell.number).collect()
@@ -80,11 +80,11 @@ fn gaps_between_the_numbers_are_not_seen() {
     let mesh = built([4; 3], &nodes);
     assert!(mesh.used() > mesh.cells().len() && mesh.cells().len() > 24);
     let mut grid = Grid::from(&mesh);
-    let picture = grid.to_svg(&[], None);
+    let picture = grid.to_svg(&[], None, &[]);
     for (place, cell) in grid.cells.iter_mut().enumerate() {
         cell.number = place;
     }
-    assert!(grid.to_svg(&[], None) == picture);
+    assert!(grid.to_svg(&[], None, &[]) == picture);
 }
 
 #[test]
@@ -119,7 +119,7 @@ fn labels_without_a_place_are_counted() {
 #[test]
 fn a_caption_is_text() {
     let mesh = Mesh::start(4, 4, 4).unwrap();
-    let text = Grid::from(&mesh).to_svg(&["a < b & c > d\n".to_string()], None);
+    let text = Grid::from(&mesh).to_svg(&["a < b & c > d\n".to_string()], None, &[]);
     assert!(text.contains(">a &lt; b &amp; c &gt; d</text>"));
 }
 
@@ -157,7 +157,7 @@ fn labels_of_small_meshes_do_not_overlap() {
             let _ = mesh.insert(sides.map(|side| random.below(u64::from(side) + 1) as u32));
         }
         let grid = Grid::from(&mesh);
-        let labels = labels(&grid.to_svg(&[], None));
+        let labels = labels(&grid.to_svg(&[], None, &[]));
         let cells = if grid.cells.len() <= 24 {
             grid.cells.len()
         } else {
@@ -175,7 +175,7 @@ fn labels_of_small_meshes_do_not_overlap() {
         let Ok(replacing) = Replacing::of(&mut mesh, node) else {
             continue;
         };
-        let labels = self::labels(&grid.to_svg(&[], Some(&replacing)));
+        let labels = self::labels(&grid.to_svg(&[], Some(&replacing), &[]));
         assert!(!do_overlap(&labels), "{}", replacing.summary());
     }
 }

@@ -2,9 +2,10 @@
 
 use std::ops::Range;
 
+use plain::corrections::Correction;
 use plain::{
-    Answers, Inserted, Listed, Located, Looked, Mesh, Position, Read, Sphere, Started, Written,
-    OUT_OF_RANGE,
+    Answers, Corrected, Inserted, Listed, Located, Looked, Mesh, Position, Read, Sphere, Started,
+    Written, OUT_OF_RANGE,
 };
 
 use crate::builders::Builder;
@@ -23,6 +24,9 @@ pub enum Call {
     InsertMarked(Vec<u8>, Position),
     InsertList(Vec<u32>),
     Locate(Position),
+    Correction(Position),
+    /// A point's number, and what is to be its correction.
+    SetCorrection(u32, Correction),
     Check,
     /// A file, and how many numbers the lent output has.
     ReadNodes(Vec<u8>, usize),
@@ -56,6 +60,9 @@ pub enum Answer {
     Looked(Looked),
     Listed(Listed),
     Located(Located),
+    Corrected(Corrected),
+    /// The refusal of a setting, or 0.
+    Set(u8),
     Checked(bool),
     Read(Read),
     Written(Written),
@@ -87,6 +94,8 @@ impl Answer {
             Answer::Looked(looked) => looked.refusal,
             Answer::Listed(listed) => listed.refusal,
             Answer::Located(located) => located.refusal,
+            Answer::Corrected(corrected) => corrected.refusal,
+            Answer::Set(refusal) => refusal,
             Answer::Read(read) => read.refusal,
             Answer::Written(written) => written.refusal,
         }
@@ -136,6 +145,8 @@ impl Call {
             Call::InsertMarked(..) => "insert_marked",
             Call::InsertList(_) => "insert_list",
             Call::Locate(_) => "locate",
+            Call::Correction(_) => "correction",
+            Call::SetCorrection(..) => "set_correction",
             Call::Check => "check",
             Call::ReadNodes(..) => "read_nodes",
             Call::WriteNodes(_) => "write_nodes",
@@ -182,6 +193,10 @@ impl Call {
             }
             Call::InsertList(_) => Answer::Listed(builder.insert_list(mesh, lent, numbers.lent())),
             Call::Locate(p) => Answer::Located(builder.locate(mesh, lent, p)),
+            Call::Correction(p) => Answer::Corrected(builder.correction(mesh, lent, p)),
+            Call::SetCorrection(point, numbers) => {
+                Answer::Set(builder.set_correction(mesh, lent, point, numbers))
+            }
             Call::Check => Answer::Checked(builder.check(mesh, lent)),
             Call::ReadNodes(..) => Answer::Read(builder.read_nodes(input.lent(), numbers.lend())),
             Call::WriteNodes(_) => Answer::Written(builder.write_nodes(mesh, lent, output.lend())),
@@ -217,6 +232,19 @@ impl Call {
             Call::Merge(merge) => &merge.area,
             _ => &[],
         }
+    }
+
+    /// May this call write the corrections?
+    pub fn writes_corrections(&self) -> bool {
+        matches!(
+            self,
+            Call::Start(_)
+                | Call::Insert(_)
+                | Call::InsertAnswers(..)
+                | Call::InsertMarked(..)
+                | Call::InsertList(_)
+                | Call::SetCorrection(..)
+        )
     }
 
     /// Is the work area lent to this call?

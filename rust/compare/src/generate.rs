@@ -4,6 +4,7 @@ use plain::random::Random;
 use plain::{Mesh, Owned, Position, CELL_LIMIT, NONE, POINT_LIMIT, SIDE_LIMIT};
 
 use crate::call::{Call, Left};
+use crate::corrections;
 use crate::entries::{self, rearrange, Entries};
 use crate::marks;
 use crate::merges;
@@ -69,6 +70,9 @@ impl History {
         if has_mesh && random.one_in(12) {
             rearrange(random, &mut self.mesh, &mut self.tables);
         }
+        if has_mesh && random.one_in(8) {
+            corrections::scatter(random, self.mesh, &mut self.tables);
+        }
         let call = match self.is_begun {
             true => self.call(random),
             false => Call::Start(self.sides),
@@ -86,6 +90,10 @@ impl History {
             for _ in 0..=random.pick(&[0, 0, 1, 2]) {
                 damage(random, &mut step);
             }
+        }
+        if has_mesh && random.one_in(10) {
+            step.is_kept = false;
+            corrections::damage(random, step.mesh, &mut step.tables);
         }
         step
     }
@@ -126,7 +134,7 @@ impl History {
                 _ => Call::Locate(self.located(random)),
             };
         }
-        match random.below(54) {
+        match random.below(66) {
             0 => Call::Start(nodes::any_sides(random)),
             1 => Call::Volume6(twelve(random)),
             2..4 => sphere_test(random),
@@ -139,6 +147,8 @@ impl History {
             20..28 => Call::Insert(p),
             28..33 => marks::look(random, self.mesh, p),
             33..40 => self.insert_marked(random, p),
+            40..46 => Call::Correction(self.corrected(random)),
+            46..52 => corrections::set_correction(random, self.mesh),
             _ => Call::InsertAnswers(nodes::answers(random, self.mesh), p),
         }
     }
@@ -170,6 +180,17 @@ impl History {
             (1 | 2, Some(p), _) => p,
             (_, _, Some(corners)) => nodes::in_cell(random, corners),
         }
+    }
+
+    /// At a point, halfway between two points, where there is one, or as a position to locate.
+    fn corrected(&self, random: &mut Random) -> Position {
+        let points = self.tables.points.as_chunks().0.iter();
+        let points: Vec<Position> = points.take(self.mesh.points as usize).copied().collect();
+        if points.is_empty() || random.one_in(2) {
+            return self.located(random);
+        }
+        let (one, other) = (random.pick(&points), random.pick(&points));
+        [0, 1, 2].map(|axis| one[axis].midpoint(other[axis]))
     }
 
     /// Where the corners of some cell are, if there is one.
@@ -240,8 +261,10 @@ fn tables(random: &mut Random) -> Owned {
         6..20 => (8 + random.index(8), 6 + random.index(60)),
         _ => (16 + random.index(60), 60 + random.index(300)),
     };
+    let corrections = corrections::table(random, points);
     let mut spare = |n: usize| random.index(n + 1);
     let mut tables = Owned {
+        corrections,
         points: vec![0; 3 * points + spare(2)],
         corners: vec![0; 4 * cells + spare(9)],
         neighbours: vec![0; 4 * cells + spare(9)],

@@ -35,13 +35,14 @@ impl<T: Copy + PartialEq> Guarded<T> {
     }
 }
 
-/// The four tables, guarded.
+/// The tables, guarded.
 #[derive(Clone)]
 pub struct GuardedTables {
     pub points: Guarded<u32>,
     pub corners: Guarded<u16>,
     pub neighbours: Guarded<u16>,
     pub work: Guarded<u16>,
+    pub corrections: Guarded<i32>,
 }
 
 impl GuardedTables {
@@ -51,6 +52,7 @@ impl GuardedTables {
             corners: Guarded::new(&owned.corners, 0xA5A5),
             neighbours: Guarded::new(&owned.neighbours, 0xA5A5),
             work: Guarded::new(&owned.work, 0xA5A5),
+            corrections: Guarded::new(&owned.corrections, 0x5A5A_5A5A),
         }
     }
 
@@ -60,6 +62,7 @@ impl GuardedTables {
             corners: self.corners.lend(),
             neighbours: self.neighbours.lend(),
             work: self.work.lend(),
+            corrections: self.corrections.lend(),
         }
     }
 
@@ -69,6 +72,7 @@ impl GuardedTables {
             corners: self.corners.lent().to_vec(),
             neighbours: self.neighbours.lent().to_vec(),
             work: self.work.lent().to_vec(),
+            corrections: self.corrections.lent().to_vec(),
         }
     }
 }

@@ -3,6 +3,7 @@
 
 pub mod builders;
 pub mod call;
+pub mod corrections;
 pub mod entries;
 pub mod generate;
 pub mod guarded;

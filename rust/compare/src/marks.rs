@@ -47,13 +47,14 @@ pub fn insert_marked(
     Call::InsertMarked(marks, p)
 }
 
-/// The marks of a look, as if there were room for any node; all 0 where it is refused.
+/// The marks of a look, as if there were room for any node and all corrections were right; all 0 where it is refused.
 fn marks(rules: &dyn Rules, mesh: Mesh, tables: &Owned, p: Position) -> Vec<u8> {
     let mut roomy = tables.clone();
     roomy.points.resize(3 * POINT_LIMIT, 0);
     roomy.corners.resize(4 * CELL_LIMIT, 0);
     roomy.neighbours.resize(4 * CELL_LIMIT, 0);
     roomy.work.resize(3 * CELL_LIMIT, 0);
+    roomy.corrections = vec![0; 3 * POINT_LIMIT];
     let mut marks = vec![0; mesh.used as usize];
     plain::look_with(rules, mesh, &mut roomy.lend(), &mut marks, p);
     marks

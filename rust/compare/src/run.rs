@@ -87,11 +87,12 @@ fn describe(step: &Step) -> String {
     };
     let tables = &step.tables;
     format!(
-        "{call}\non {:?}\nlent {} points, {} corners, {} neighbours, {} work entries",
+        "{call}\non {:?}\nlent {} points, {} corners, {} neighbours, {} work entries, {} corrections",
         step.mesh,
         tables.points.len(),
         tables.corners.len(),
         tables.neighbours.len(),
-        tables.work.len()
+        tables.work.len(),
+        tables.corrections.len()
     )
 }

@@ -1,18 +1,21 @@
 //! A start and further calls as lines of text, and what a build answers and leaves for them.
 
+use plain::corrections::Correction;
 use plain::listing::cells;
 use plain::loaded::Cell;
 use plain::nodefile::encode;
-use plain::{Answers, Looked, Mesh, Owned, Position, NONE};
+use plain::{Answers, Corrected, Inserted, Looked, Mesh, Owned, Position, NONE};
 
 use crate::builders::Builder;
 
-/// The first line is the box and the room, `box 4 4 4 points 11 cells 18`; then a line a call.
+/// The first line is the box and the room, `box 4 4 4 points 11 cells 18`, with `corrections 32` where that table has not three
+/// entries a point; then a line a call.
 #[derive(Debug, PartialEq, Eq)]
 pub struct Script {
     pub sides: Position,
     pub points: u16,
     pub cells: u16,
+    pub corrections: usize,
     pub lines: Vec<Line>,
 }
 
@@ -28,6 +31,12 @@ pub enum Line {
     Marked(Vec<u8>, Position),
     /// `locate 1 2 3`
     Locate(Position),
+    /// `correction 1 2 3`: of a position.
+    Correction(Position),
+    /// `set 8 5 -5 0`: a point's correction.
+    Set(u32, Correction),
+    /// `start 4 4 4`: in the same tables.
+    Start(Position),
     /// `check`
     Check,
     /// `merge 1 2 3 2 2 2 and 1 2 3`: two files of the box, with these nodes.
@@ -37,6 +46,8 @@ pub enum Line {
     Cell(u16, Cell),
     /// `record cells 12 chain 5 used 18`: no call, but these numbers put into the record.
     Record(Record),
+    /// `stands 24 1001`: no call, but a number put into the correction table, at this entry.
+    Stands(usize, i32),
 }
 
 #[derive(Debug, PartialEq, Eq)]
@@ -47,7 +58,8 @@ pub struct Record {
 }
 
 const KINDS: &str =
-    "'sphere', 'answers', 'look', 'marked', 'locate', 'check', 'merge', 'cell' or 'record'";
+    "'sphere', 'answers', 'look', 'marked', 'locate', 'correction', 'set', 'start', \
+                     'check', 'merge', 'cell', 'record' or 'stands'";
 
 fn number<T: std::str::FromStr>(word: &str) -> Result<T, String> {
     word.parse().map_err(|_| format!("{word}: no number"))
@@ -61,11 +73,15 @@ fn number_or_dash<T: std::str::FromStr + From<u16>>(word: &str) -> Result<T, Str
     }
 }
 
-fn position(words: &[&str]) -> Result<Position, String> {
+fn three<T: std::str::FromStr>(words: &[&str]) -> Result<[T; 3], String> {
     match words {
         [x, y, z] => Ok([number(x)?, number(y)?, number(z)?]),
         _ => Err("not three numbers".to_string()),
     }
+}
+
+fn position(words: &[&str]) -> Result<Position, String> {
+    three(words)
 }
 
 /// A digit a byte, up to the greatest.
@@ -78,15 +94,23 @@ fn digits(word: &str, greatest: u8) -> Result<Vec<u8>, String> {
 }
 
 fn start(line: &str) -> Result<Script, String> {
-    match line.split_whitespace().collect::<Vec<_>>()[..] {
-        ["box", x, y, z, "points", points, "cells", cells] => Ok(Script {
-            sides: position(&[x, y, z])?,
-            points: number(points)?,
-            cells: number(cells)?,
-            lines: vec![],
-        }),
-        _ => Err("not 'box X Y Z points P cells C'".to_string()),
-    }
+    let words: Vec<&str> = line.split_whitespace().collect();
+    let ["box", x, y, z, "points", points, "cells", cells, ref more @ ..] = words[..] else {
+        return Err("not 'box X Y Z points P cells C'".to_string());
+    };
+    let points = number(points)?;
+    let corrections = match more {
+        [] => 3 * usize::from(points),
+        ["corrections", entries] => number(entries)?,
+        _ => return Err("not 'corrections N' after the cells".to_string()),
+    };
+    Ok(Script {
+        sides: position(&[x, y, z])?,
+        points,
+        cells: number(cells)?,
+        corrections,
+        lines: vec![],
+    })
 }
 
 fn cell(words: &[&str]) -> Result<Line, String> {
@@ -133,7 +157,7 @@ fn merge(words: &[&str]) -> Result<Line, String> {
     }
 }
 
-fn line(text: &str, room: u16) -> Result<Line, String> {
+fn line(text: &str, script: &Script) -> Result<Line, String> {
     let words: Vec<&str> = text.split_whitespace().collect();
     match words[..] {
         ["sphere", ref node @ ..] => Ok(Line::Sphere(position(node)?)),
@@ -141,13 +165,22 @@ fn line(text: &str, room: u16) -> Result<Line, String> {
         ["look", ref node @ ..] => Ok(Line::Look(position(node)?)),
         ["marked", marks, ref node @ ..] => Ok(Line::Marked(digits(marks, 9)?, position(node)?)),
         ["locate", ref position @ ..] => Ok(Line::Locate(self::position(position)?)),
+        ["correction", ref position @ ..] => Ok(Line::Correction(self::position(position)?)),
+        ["set", point, ref numbers @ ..] => Ok(Line::Set(number(point)?, three(numbers)?)),
+        ["start", ref sides @ ..] => Ok(Line::Start(position(sides)?)),
         ["check"] => Ok(Line::Check),
         ["merge", ref files @ ..] => merge(files),
         ["cell", ref entries @ ..] => match cell(entries)? {
-            Line::Cell(place, _) if place >= room => Err(format!("no room for a cell {place}")),
+            Line::Cell(place, _) if place >= script.cells => {
+                Err(format!("no room for a cell {place}"))
+            }
             cell => Ok(cell),
         },
         ["record", ref numbers @ ..] => record(numbers),
+        ["stands", place, entry] => match number(place)? {
+            place if place >= script.corrections => Err(format!("no entry {place}")),
+            place => Ok(Line::Stands(place, number(entry)?)),
+        },
         _ => Err(format!("not a line of {KINDS}")),
     }
 }
@@ -200,6 +233,22 @@ fn located(build: &dyn Builder, mesh: Mesh, tables: &mut Owned, p: Position) -> 
     format!("cell {} corners {a} {b} {c} {d}\n", answer.cell)
 }
 
+fn corrected(answer: Corrected) -> String {
+    let Corrected { refusal, x, y, z } = answer;
+    match refusal {
+        0 => format!("correction {x} {y} {z}\n"),
+        number => format!("refused {number}\n"),
+    }
+}
+
+/// What was done, or the refusal.
+fn done(refusal: u8, what: &str) -> String {
+    match refusal {
+        0 => format!("{what}\n"),
+        number => format!("refused {number}\n"),
+    }
+}
+
 /// The nodes of the merged file, or the refusal.
 fn merged(build: &dyn Builder, sides: Position, files: &[Vec<Position>; 2]) -> String {
     let [first, second] = files.each_ref().map(|nodes| encode(sides, nodes));
@@ -225,7 +274,7 @@ impl Script {
         let at = |number: usize, error: String| format!("line {number}: {error}");
         let mut script = start(lines.next().unwrap_or("")).map_err(|error| at(1, error))?;
         for (i, text) in lines.enumerate() {
-            let next = line(text, script.cells).map_err(|error| at(i + 2, error))?;
+            let next = line(text, &script).map_err(|error| at(i + 2, error))?;
             script.lines.push(next);
         }
         Ok(script)
@@ -234,6 +283,7 @@ impl Script {
     /// What the build answers to each call, and a listing of what it leaves.
     pub fn play(&self, build: &dyn Builder) -> String {
         let mut tables = Owned::with_room(self.points.into(), self.cells.into());
+        tables.corrections.resize(self.corrections, 0);
         let started = build.start(self.sides, &mut tables.lend());
         if started.refusal != 0 {
             return format!("refused {}\n", started.refusal);
@@ -249,40 +299,66 @@ impl Script {
 
 impl Line {
     fn play(&self, build: &dyn Builder, mesh: &mut Mesh, tables: &mut Owned) -> String {
-        let answer = match self {
-            Line::Sphere(node) => {
-                build.insert(*mesh, &mut tables.lend(), Answers::SphereTest, *node)
+        if let Some(answer) = self.insert(build, *mesh, tables) {
+            *mesh = answer.mesh;
+            return said(answer.report());
+        }
+        match self {
+            Line::Look(p) => looked(build, *mesh, tables, *p),
+            Line::Locate(p) => located(build, *mesh, tables, *p),
+            Line::Correction(p) => corrected(build.correction(*mesh, &mut tables.lend(), *p)),
+            Line::Set(point, numbers) => {
+                let refusal = build.set_correction(*mesh, &mut tables.lend(), *point, *numbers);
+                done(refusal, "set")
             }
-            Line::Answers(bytes, node) => {
-                build.insert(*mesh, &mut tables.lend(), Answers::Given(bytes), *node)
+            Line::Start(sides) => {
+                let answer = build.start(*sides, &mut tables.lend());
+                if answer.refusal == 0 {
+                    *mesh = answer.mesh;
+                }
+                done(answer.refusal, "started")
             }
-            Line::Marked(marks, node) => {
-                build.insert_marked(*mesh, &mut tables.lend(), marks, *node)
-            }
-            Line::Look(p) => return looked(build, *mesh, tables, *p),
-            Line::Locate(p) => return located(build, *mesh, tables, *p),
             Line::Check => {
                 let is_mesh = build.check(*mesh, &mut tables.lend());
-                return format!("check {}\n", if is_mesh { "yes" } else { "no" });
+                format!("check {}\n", if is_mesh { "yes" } else { "no" })
             }
-            Line::Merge(files) => return merged(build, mesh.sides(), files),
+            Line::Merge(files) => merged(build, mesh.sides(), files),
+            _ => {
+                self.put(mesh, tables);
+                String::new()
+            }
+        }
+    }
+
+    /// The answer of an insertion.
+    fn insert(&self, build: &dyn Builder, mesh: Mesh, tables: &mut Owned) -> Option<Inserted> {
+        let lent = &mut tables.lend();
+        match self {
+            Line::Sphere(p) => Some(build.insert(mesh, lent, Answers::SphereTest, *p)),
+            Line::Answers(bytes, p) => Some(build.insert(mesh, lent, Answers::Given(bytes), *p)),
+            Line::Marked(marks, p) => Some(build.insert_marked(mesh, lent, marks, *p)),
+            _ => None,
+        }
+    }
+
+    /// What is no call.
+    fn put(&self, mesh: &mut Mesh, tables: &mut Owned) {
+        match *self {
             Line::Cell(place, cell) => {
-                let entries = 4 * *place as usize..4 * *place as usize + 4;
+                let entries = 4 * place as usize..4 * place as usize + 4;
                 tables.corners[entries.clone()].copy_from_slice(&cell.corners);
                 tables.neighbours[entries].copy_from_slice(&cell.neighbours);
-                return String::new();
             }
-            &Line::Record(Record { cells, chain, used }) => {
+            Line::Record(Record { cells, chain, used }) => {
                 *mesh = Mesh {
                     cells,
                     chain,
                     used,
                     ..*mesh
                 };
-                return String::new();
             }
-        };
-        *mesh = answer.mesh;
-        said(answer.report())
+            Line::Stands(place, number) => tables.corrections[place] = number,
+            _ => {}
+        }
     }
 }

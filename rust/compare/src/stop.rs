@@ -2,9 +2,9 @@
 
 use std::fmt;
 
-use crate::call::{Call, Left};
+use crate::call::{Answer, Call, Left};
 use crate::guarded::{Guarded, GuardedTables};
-use crate::tally::{is_reachable, outcome_name};
+use crate::tally::{is_reachable, outcome_name, ACCEPTED};
 
 #[derive(Debug)]
 pub struct Stop {
@@ -45,6 +45,7 @@ pub fn difference(left: &Left, right: &Left) -> Option<String> {
         .or_else(|| differs("corners", &l.corners, &r.corners))
         .or_else(|| differs("neighbours", &l.neighbours, &r.neighbours))
         .or_else(|| differs("work", &l.work, &r.work))
+        .or_else(|| differs("corrections", &l.corrections, &r.corrections))
         .or_else(|| differs("numbers", &lent.numbers, &other.numbers))
         .or_else(|| differs("input", &lent.input, &other.input))
         .or_else(|| differs("output", &lent.output, &other.output))
@@ -53,6 +54,7 @@ pub fn difference(left: &Left, right: &Left) -> Option<String> {
 /// Of what both left alike.
 pub fn wrong_with_both(call: &Call, before: &GuardedTables, left: &Left) -> Option<String> {
     wrong_work(call, before, &left.tables)
+        .or_else(|| wrong_corrections(call, before, left))
         .or_else(|| wrong_input(call, left))
         .or_else(|| unreachable_answer(call, left))
 }
@@ -82,6 +84,17 @@ fn wrong_work(call: &Call, before: &GuardedTables, left: &GuardedTables) -> Opti
     }
     let place = left.work.lent().iter().position(|&entry| entry != 0)?;
     Some(format!("work[{place}]: not cleared"))
+}
+
+/// A call that is refused, or may not write them, leaves them; a list is refused where no node went in.
+fn wrong_corrections(call: &Call, before: &GuardedTables, left: &Left) -> Option<String> {
+    let is_refused = match left.answer {
+        Answer::Listed(listed) => listed.place == 0,
+        answer => answer.outcome() != ACCEPTED,
+    };
+    let may_change = call.writes_corrections() && !is_refused;
+    let is_changed = left.tables.corrections != before.corrections;
+    (is_changed && !may_change).then(|| "corrections: written".to_string())
 }
 
 fn wrong_input(call: &Call, left: &Left) -> Option<String> {

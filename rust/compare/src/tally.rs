@@ -7,18 +7,20 @@ pub const ACCEPTED: u8 = 0;
 /// The mesh check's no, and the volume's none; the other outcomes are numbers of the refusal table.
 pub const NO: u8 = u8::MAX;
 
-const INSERTION: &[u8] = &[ACCEPTED, 1, 2, 3, 4, 5, 6, 8];
+const INSERTION: &[u8] = &[ACCEPTED, 1, 2, 3, 4, 5, 6, 8, 12];
 
 /// The outcomes of each call that some input reaches. 7 is not among them: it is proved never to occur, and a
 /// comparison that meets one stops.
-const REACHABLE: [(&str, &[u8]); 13] = [
+const REACHABLE: [(&str, &[u8]); 15] = [
     ("start", &[ACCEPTED, 1, 2]),
     ("insert", INSERTION),
     ("insert_answers", INSERTION),
-    ("look", &[ACCEPTED, 1, 2, 3, 4, 5, 6, 8, 10]),
-    ("insert_marked", &[ACCEPTED, 1, 2, 3, 4, 5, 6, 8, 14]),
+    ("look", &[ACCEPTED, 1, 2, 3, 4, 5, 6, 8, 10, 12]),
+    ("insert_marked", &[ACCEPTED, 1, 2, 3, 4, 5, 6, 8, 12, 14]),
     ("insert_list", INSERTION),
     ("locate", &[ACCEPTED, 1, 2, 3, 4]),
+    ("correction", &[ACCEPTED, 1, 2, 3, 4, 12]),
+    ("set_correction", &[ACCEPTED, 1, 2, 3, 12, 13]),
     ("check", &[ACCEPTED, NO]),
     ("read_nodes", &[ACCEPTED, 2, 9, 10]),
     ("write_nodes", &[ACCEPTED, 1, 2, 3, 10]),
@@ -27,7 +29,7 @@ const REACHABLE: [(&str, &[u8]); 13] = [
     ("sphere_test", &[ACCEPTED, 4, 11]),
 ];
 
-const COLUMNS: [u8; 14] = [ACCEPTED, 1, 2, 3, 4, 5, 6, 8, 9, 10, 11, 14, 19, NO];
+const COLUMNS: [u8; 16] = [ACCEPTED, 1, 2, 3, 4, 5, 6, 8, 9, 10, 11, 12, 13, 14, 19, NO];
 
 pub fn is_reachable(call: &str, outcome: u8) -> bool {
     let mut rows = REACHABLE.iter();
@@ -107,9 +109,10 @@ mod tests {
         assert_eq!(tally.missing(), ["insert 6", "check no"]);
         tally.count("check", NO);
         assert_eq!(tally.missing(), ["insert 6"]);
-        for call in ["insert", "locate", "look", "insert_marked"] {
+        for call in ["insert", "locate", "look", "insert_marked", "correction"] {
             assert!(!is_reachable(call, 7));
         }
+        assert!(!is_reachable("start", 12) && !is_reachable("locate", 12));
         assert!(!is_reachable("look", 14) && !is_reachable("insert_marked", 10));
     }
 }

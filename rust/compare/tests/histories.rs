@@ -223,6 +223,13 @@ fn a_bad_line_is_named() {
         after("check\ncell 18 0 1 3 7 - - - -"),
         "line 3: no room for a cell 18"
     );
+    assert_eq!(after("correction 1 2"), "line 2: not three numbers");
+    assert_eq!(after("set 8 1 -2"), "line 2: not three numbers");
+    assert_eq!(after("set -1 1 2 3"), "line 2: -1: no number");
+    assert_eq!(after("start 4 4"), "line 2: not three numbers");
+    assert_eq!(after("stands 33 0"), "line 2: no entry 33");
+    let room = Script::parse("box 4 4 4 points 11 cells 18 entries 5").unwrap_err();
+    assert_eq!(room, "line 1: not 'corrections N' after the cells");
     let record = "line 2: not 'record cells C chain N used U'";
     assert_eq!(after("record cells 6 chain - used"), record);
     assert_eq!(

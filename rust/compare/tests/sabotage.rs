@@ -1,9 +1,10 @@
 //! The comparison sees a single wrong entry or bit.
 
 use compare::{run, Builder, Stop, Tuned};
+use plain::corrections::Correction;
 use plain::{
-    Answers, Inserted, Listed, Located, Looked, Mesh, Position, Read, Sphere, Started, Tables,
-    Written,
+    Answers, Corrected, Inserted, Listed, Located, Looked, Mesh, Position, Read, Sphere, Started,
+    Tables, Written,
 };
 
 #[derive(Clone, Copy, PartialEq)]
@@ -39,6 +40,16 @@ enum Harm {
     Look,
     /// The record of an insertion with other marks is cleared.
     OtherMarks,
+    /// An insertion clears the corrections behind its node's.
+    CorrectionBeyond,
+    /// A start clears the corrections behind the box corners'.
+    CorrectionAtStart,
+    /// A setting that is refused is made.
+    CorrectionRefused,
+    /// A look changes a correction.
+    CorrectionByLook,
+    /// A refused reading gives a number.
+    CorrectionRead,
 }
 
 /// `tuned` with one harm done.
@@ -60,6 +71,9 @@ impl Harmed {
             Harm::Freed if *refusal == 0 => tables.neighbours[4 * mesh.chain as usize + 3] = 0,
             Harm::Used if *refusal == 0 => mesh.used += 1,
             Harm::Chain if *refusal == 0 => mesh.chain |= 1 << 16,
+            Harm::CorrectionBeyond if *refusal == 0 => {
+                clear_corrections(tables, 3 * mesh.points as usize)
+            }
             _ => {}
         }
     }
@@ -69,6 +83,12 @@ impl Harmed {
             out[answer.bytes as usize] = 0;
         }
     }
+}
+
+/// From this entry on.
+fn clear_corrections(tables: &mut Tables, place: usize) {
+    let entries = tables.corrections.iter_mut().skip(place);
+    entries.for_each(|entry| *entry = 0);
 }
 
 impl Builder for Harmed {
@@ -85,7 +105,11 @@ impl Builder for Harmed {
     }
 
     fn start(&self, sides: Position, tables: &mut Tables) -> Started {
-        Tuned.start(sides, tables)
+        let answer = Tuned.start(sides, tables);
+        if self.0 == Harm::CorrectionAtStart && answer.refusal == 0 {
+            clear_corrections(tables, 24);
+        }
+        answer
     }
 
     fn insert(&self, mesh: Mesh, tables: &mut Tables, answers: Answers, p: Position) -> Inserted {
@@ -109,8 +133,12 @@ impl Builder for Harmed {
             _ => marks.len(),
         };
         marks.iter_mut().skip(place).take(1).for_each(|m| *m ^= 1);
-        if self.0 == Harm::Look {
-            Tuned.insert(mesh, tables, Answers::SphereTest, p);
+        match self.0 {
+            Harm::Look => {
+                Tuned.insert(mesh, tables, Answers::SphereTest, p);
+            }
+            Harm::CorrectionByLook => tables.corrections.iter_mut().take(1).for_each(|n| *n ^= 1),
+            _ => {}
         }
         answer
     }
@@ -140,6 +168,28 @@ impl Builder for Harmed {
         self.harm(tables);
         if matches!(self.0, Harm::Unheld) && answer.refusal == 0 {
             answer.refusal = 7;
+        }
+        answer
+    }
+
+    fn correction(&self, mesh: Mesh, tables: &mut Tables, p: Position) -> Corrected {
+        let mut answer = Tuned.correction(mesh, tables, p);
+        if self.0 == Harm::CorrectionRead && answer.refusal != 0 {
+            answer.y = 1;
+        }
+        answer
+    }
+
+    fn set_correction(
+        &self,
+        mesh: Mesh,
+        tables: &mut Tables,
+        point: u32,
+        numbers: Correction,
+    ) -> u8 {
+        let answer = Tuned.set_correction(mesh, tables, point, numbers);
+        if self.0 == Harm::CorrectionRefused && answer == 12 {
+            tables.corrections.as_chunks_mut().0[point as usize] = numbers;
         }
         answer
     }
@@ -186,6 +236,11 @@ fn every_harm_is_found() {
         (Harm::MarkRefused, "output["),
         (Harm::Look, "points["),
         (Harm::OtherMarks, "answer: "),
+        (Harm::CorrectionBeyond, "corrections["),
+        (Harm::CorrectionAtStart, "corrections["),
+        (Harm::CorrectionRefused, "corrections["),
+        (Harm::CorrectionByLook, "corrections["),
+        (Harm::CorrectionRead, "answer: "),
     ];
     for (harm, what) in cases {
         for stop in [stop(harm, Harm::None), stop(Harm::None, harm)] {
@@ -202,6 +257,15 @@ fn a_work_area_that_neither_clears_is_found() {
     assert!(stop
         .to_string()
         .starts_with("wrong with both: seed 1 step "));
+}
+
+#[test]
+fn corrections_that_both_write_are_found() {
+    for harm in [Harm::CorrectionByLook, Harm::CorrectionRefused] {
+        let stop = stop(harm, harm).expect("a stop");
+        assert!(!stop.is_difference);
+        assert_eq!(stop.what, "corrections: written");
+    }
 }
 
 #[test]

@@ -25,6 +25,19 @@
 //! # Ok::<(), Refusal>(())
 //! ```
 //!
+//! Each point has a [correction](Mesh#corrections), and so each position one between those of its cell's corners:
+//!
+//! ```
+//! use gantry::{Mesh, Refusal};
+//!
+//! let mut mesh = Mesh::start(2_000, 1_200, 800)?;
+//! let node = mesh.insert([500, 400, 300])?.point;
+//! mesh.set_correction(node, [-12, 7, 3])?;
+//! assert_eq!(mesh.correction([500, 400, 300]), Ok([-12, 7, 3]));
+//! assert_eq!(mesh.correction([250, 200, 150]), Ok([-6, 4, 2]));
+//! # Ok::<(), Refusal>(())
+//! ```
+//!
 //! A node file to a mesh, and back:
 //!
 //! ```
@@ -70,6 +83,9 @@ pub use refusal::{Refusal, Stopped};
 /// Three coordinates.
 pub type Position = [u32; 3];
 
+/// In steps along x, y and z, each from -1,000 to 1,000.
+pub type Correction = [i32; 3];
+
 /// The most points of a mesh, the eight box corners among them.
 pub const POINT_LIMIT: usize = 1_024;
 /// The most cells of a mesh.
@@ -78,3 +94,5 @@ pub const CELL_LIMIT: usize = 4_096;
 pub const NODE_LIMIT: usize = POINT_LIMIT - 8;
 /// The longest side of a box.
 pub const SIDE_LIMIT: u32 = 131_072;
+/// The greatest correction, up or down.
+pub const CORRECTION_LIMIT: i32 = 1_000;

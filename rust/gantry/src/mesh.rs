@@ -3,7 +3,7 @@
 use std::fmt;
 
 use crate::refusal::accepted;
-use crate::{raw, Position, Refusal, Stopped, CELL_LIMIT, POINT_LIMIT};
+use crate::{raw, Correction, Position, Refusal, Stopped, CELL_LIMIT, POINT_LIMIT};
 
 /// How many points and cells a mesh has room for; more than 1,024 and 4,096 count as these.
 ///
@@ -104,8 +104,8 @@ impl Look {
 
 /// Cells over the nodes of a box, with their tables.
 ///
-/// All calls take `&mut self`, [`look`](Mesh::look), [`locate`](Mesh::locate) and [`check`](Mesh::check) too: each is lent the
-/// work area.
+/// All calls take `&mut self`, [`look`](Mesh::look), [`locate`](Mesh::locate), [`correction`](Mesh::correction) and
+/// [`check`](Mesh::check) too: each is lent the work area.
 ///
 /// Two are equal where box, room and all table entries are: then every call answers alike on both.
 ///
@@ -147,6 +147,23 @@ impl Look {
 /// assert!(numbers.eq([2, 3, 4, 5, 7, 8, 9, 10, 11, 12, 13, 14, 15, 17]));
 /// # Ok::<(), gantry::Refusal>(())
 /// ```
+///
+/// # Corrections
+///
+/// Each point has a correction, three signed numbers of steps. Box corners start at 0, and a node starts with the
+/// [correction](Mesh::correction) that its position had before it went in: an insertion moves no position's correction at the
+/// node itself. [`set_correction`](Mesh::set_correction) gives a point another one.
+///
+/// ```
+/// use gantry::Mesh;
+///
+/// let mut mesh = Mesh::start(4, 4, 4)?;
+/// mesh.set_correction(7, [1_000, -1_000, 3])?;
+/// let before = mesh.correction([2, 2, 2])?;
+/// let node = mesh.insert([2, 2, 2])?.point;
+/// assert_eq!(mesh.corrections()[node], before);
+/// # Ok::<(), gantry::Refusal>(())
+/// ```
 #[derive(Clone, PartialEq, Eq)]
 pub struct Mesh {
     record: raw::Record,
@@ -154,6 +171,7 @@ pub struct Mesh {
     corners: Vec<u16>,
     neighbours: Vec<u16>,
     work: Vec<u16>,
+    corrections: Vec<i32>,
 }
 
 impl Mesh {
@@ -192,21 +210,23 @@ impl Mesh {
             corners: vec![0; 4 * cells],
             neighbours: vec![0; 4 * cells],
             work: vec![0; 3 * cells],
+            corrections: vec![0; 3 * points],
         };
-        let started = raw::start([x, y, z], &mut mesh.lend().1);
+        let (_, mut tables, corrections) = mesh.lend();
+        let started = raw::start([x, y, z], &mut tables, corrections);
         accepted(started.refusal)?;
         mesh.record = started.mesh;
         Ok(mesh)
     }
 
-    fn lend(&mut self) -> (raw::Record, raw::Tables<'_>) {
+    fn lend(&mut self) -> (raw::Record, raw::Tables<'_>, &mut [i32]) {
         let tables = raw::Tables {
             points: &mut self.points,
             corners: &mut self.corners,
             neighbours: &mut self.neighbours,
             work: &mut self.work,
         };
-        (self.record, tables)
+        (self.record, tables, &mut self.corrections)
     }
 
     fn take(&mut self, inserted: raw::Inserted) -> Result<Report, Refusal> {
@@ -223,8 +243,8 @@ impl Mesh {
         Ok(report([point, before, after, made], least))
     }
 
-    /// Inserts one node by the sphere test. Refused with [`Refusal::Outside`], [`Refusal::Taken`],
-    /// [`Refusal::PointsFull`] or [`Refusal::CellsFull`].
+    /// Inserts one node by the sphere test; it starts with the [correction](Mesh::correction) that its position had. Refused
+    /// with [`Refusal::Outside`], [`Refusal::Taken`], [`Refusal::PointsFull`] or [`Refusal::CellsFull`].
     ///
     /// While all nodes since the start have gone in by the sphere test, here or in a [list](Mesh::insert_list), no point of
     /// the mesh lies strictly inside the sphere of any cell, and the correction removes nothing.
@@ -238,8 +258,8 @@ impl Mesh {
     /// # Ok::<(), gantry::Refusal>(())
     /// ```
     pub fn insert(&mut self, p: Position) -> Result<Report, Refusal> {
-        let (record, mut tables) = self.lend();
-        let inserted = raw::insert(record, &mut tables, p);
+        let (record, mut tables, corrections) = self.lend();
+        let inserted = raw::insert(record, &mut tables, corrections, p);
         self.take(inserted)
     }
 
@@ -258,8 +278,8 @@ impl Mesh {
     /// # Ok::<(), gantry::Refusal>(())
     /// ```
     pub fn insert_answers(&mut self, answers: &[u8], p: Position) -> Result<Report, Refusal> {
-        let (record, mut tables) = self.lend();
-        let inserted = raw::insert_answers(record, &mut tables, answers, p);
+        let (record, mut tables, corrections) = self.lend();
+        let inserted = raw::insert_answers(record, &mut tables, corrections, answers, p);
         self.take(inserted)
     }
 
@@ -279,8 +299,8 @@ impl Mesh {
     /// ```
     pub fn look(&mut self, p: Position) -> Result<Look, Refusal> {
         let mut marks = vec![0; self.used()];
-        let (record, mut tables) = self.lend();
-        let looked = raw::look(record, &mut tables, &mut marks, p);
+        let (record, mut tables, corrections) = self.lend();
+        let looked = raw::look(record, &mut tables, corrections, &mut marks, p);
         accepted(looked.refusal)?;
         let raw::Looked {
             point,
@@ -313,8 +333,9 @@ impl Mesh {
     /// # Ok::<(), Refusal>(())
     /// ```
     pub fn insert_looked(&mut self, look: &Look) -> Result<Report, Refusal> {
-        let (record, mut tables) = self.lend();
-        let inserted = raw::insert_marked(record, &mut tables, &look.marks, look.position);
+        let (record, mut tables, corrections) = self.lend();
+        let inserted =
+            raw::insert_marked(record, &mut tables, corrections, &look.marks, look.position);
         self.take(inserted)
     }
 
@@ -333,8 +354,8 @@ impl Mesh {
     /// # Ok::<(), Refusal>(())
     /// ```
     pub fn insert_list(&mut self, nodes: &[Position]) -> Result<usize, Stopped> {
-        let (record, mut tables) = self.lend();
-        let listed = raw::insert_list(record, &mut tables, nodes.as_flattened());
+        let (record, mut tables, corrections) = self.lend();
+        let listed = raw::insert_list(record, &mut tables, corrections, nodes.as_flattened());
         self.record = listed.mesh;
         let place = listed.place as usize;
         match accepted(listed.refusal) {
@@ -373,10 +394,59 @@ impl Mesh {
     /// # Ok::<(), gantry::Refusal>(())
     /// ```
     pub fn locate(&mut self, p: Position) -> Result<usize, Refusal> {
-        let (record, mut tables) = self.lend();
+        let (record, mut tables, _) = self.lend();
         let located = raw::locate(record, &mut tables, p);
         accepted(located.refusal)?;
         Ok(located.cell as usize)
+    }
+
+    /// The correction of a position: on each axis the mean of those of the four corners of its cell, weighed with their
+    /// shares in it, and rounded to the nearest whole number, halves away from zero. It is the same from every cell that holds
+    /// the position, and lies between the least and the greatest of the four. Refused with [`Refusal::Outside`].
+    ///
+    /// ```
+    /// use gantry::{Mesh, Refusal};
+    ///
+    /// let mut mesh = Mesh::start(4, 4, 4)?;
+    /// mesh.set_correction(1, [1, -1, 3])?;
+    /// assert_eq!(mesh.correction([4, 0, 0]), Ok([1, -1, 3]));
+    /// assert_eq!(mesh.correction([2, 0, 0]), Ok([1, -1, 2]));
+    /// assert_eq!(mesh.correction([1, 0, 0]), Ok([0, 0, 1]));
+    /// assert_eq!(mesh.correction([5, 0, 0]), Err(Refusal::Outside));
+    /// # Ok::<(), Refusal>(())
+    /// ```
+    pub fn correction(&mut self, p: Position) -> Result<Correction, Refusal> {
+        let (record, mut tables, corrections) = self.lend();
+        let raw::Corrected { refusal, x, y, z } =
+            raw::correction(record, &mut tables, corrections, p);
+        accepted(refusal)?;
+        Ok([x, y, z])
+    }
+
+    /// Gives a point, a box corner or a node, another correction. Refused with [`Refusal::NoPoint`], or else with
+    /// [`Refusal::OutOfRange`] for a number outside -1,000 to 1,000.
+    ///
+    /// ```
+    /// use gantry::{Mesh, Refusal};
+    ///
+    /// let mut mesh = Mesh::start(4, 4, 4)?;
+    /// mesh.set_correction(7, [1_000, -1_000, 0])?;
+    /// assert_eq!(mesh.corrections()[7], [1_000, -1_000, 0]);
+    /// assert_eq!(mesh.set_correction(7, [0, 0, 1_001]), Err(Refusal::OutOfRange));
+    /// assert_eq!(mesh.set_correction(8, [0, 0, 1_001]), Err(Refusal::NoPoint));
+    /// # Ok::<(), Refusal>(())
+    /// ```
+    pub fn set_correction(&mut self, point: usize, numbers: Correction) -> Result<(), Refusal> {
+        let (record, mut tables, corrections) = self.lend();
+        // What no u32 holds is no point's number either.
+        let point = u32::try_from(point).unwrap_or(u32::MAX);
+        accepted(raw::set_correction(
+            record,
+            &mut tables,
+            corrections,
+            point,
+            numbers,
+        ))
     }
 
     /// The mesh check: yes after any calls.
@@ -388,11 +458,11 @@ impl Mesh {
     /// # Ok::<(), gantry::Refusal>(())
     /// ```
     pub fn check(&mut self) -> bool {
-        let (record, mut tables) = self.lend();
+        let (record, mut tables, _) = self.lend();
         raw::check(record, &mut tables)
     }
 
-    /// The nodes, box corners left out, as a node file without a note.
+    /// The nodes, box corners left out, as a node file without a note; corrections have no place in one.
     ///
     /// ```
     /// let mut mesh = gantry::Mesh::start(4, 4, 4)?;
@@ -404,7 +474,7 @@ impl Mesh {
     /// ```
     pub fn write_nodes(&mut self) -> Result<Vec<u8>, Refusal> {
         let mut file = vec![0; 12 * self.points().len() - 96 + 20];
-        let (record, mut tables) = self.lend();
+        let (record, mut tables, _) = self.lend();
         let written = raw::write_nodes(record, &mut tables, &mut file);
         accepted(written.refusal)?;
         file.truncate(written.bytes as usize);
@@ -434,6 +504,19 @@ impl Mesh {
     /// ```
     pub fn points(&self) -> &[Position] {
         &self.points.as_chunks().0[..self.record.points as usize]
+    }
+
+    /// The corrections of the points, in the same order.
+    ///
+    /// ```
+    /// let mut mesh = gantry::Mesh::start(4, 4, 4)?;
+    /// mesh.set_correction(7, [3, 0, -3])?;
+    /// mesh.insert([2, 2, 2])?;
+    /// assert_eq!(mesh.corrections()[6..], [[0, 0, 0], [3, 0, -3], [2, 0, -2]]);
+    /// # Ok::<(), gantry::Refusal>(())
+    /// ```
+    pub fn corrections(&self) -> &[Correction] {
+        &self.corrections.as_chunks().0[..self.record.points as usize]
     }
 
     /// The cells, by rising number; there may be gaps between the numbers.

@@ -11,9 +11,10 @@
 //!
 //! let (mut points, mut corners, mut neighbours, mut work) = ([0; 3 * 9], [0; 4 * 18], [0; 4 * 18], [0; 3 * 18]);
 //! let mut tables = Tables { points: &mut points, corners: &mut corners, neighbours: &mut neighbours, work: &mut work };
-//! let started = raw::start([4, 4, 4], &mut tables);
+//! let mut corrections = [0; 3 * 9];
+//! let started = raw::start([4, 4, 4], &mut tables, &mut corrections);
 //! assert_eq!(started.refusal, 0);
-//! let inserted = raw::insert(started.mesh, &mut tables, [1, 2, 3]);
+//! let inserted = raw::insert(started.mesh, &mut tables, &mut corrections, [1, 2, 3]);
 //! assert_eq!((inserted.refusal, inserted.mesh.cells), (0, 12));
 //! assert!(raw::check(inserted.mesh, &mut tables));
 //!
@@ -124,6 +125,20 @@ pub struct Located {
     pub cell: u32,
 }
 
+/// `gantry_corrected`
+#[repr(C)]
+#[derive(Clone, Copy, Debug)]
+pub struct Corrected {
+    /// 0 for accepted, else the refusal's number.
+    pub refusal: u8,
+    /// The correction along x.
+    pub x: i32,
+    /// The correction along y.
+    pub y: i32,
+    /// The correction along z.
+    pub z: i32,
+}
+
 /// `gantry_sphere`
 #[repr(C)]
 #[derive(Clone, Copy, Debug)]
@@ -163,7 +178,8 @@ pub struct Written {
 }
 
 /// The four tables that every call on a mesh is lent. A third of the points' length is the room for points, the least of a
-/// quarter of the corners', a quarter of the neighbours' and a third of the work area's the room for cells.
+/// quarter of the corners', a quarter of the neighbours' and a third of the work area's the room for cells. The calls that are
+/// lent corrections too take them as a slice of their own: three entries a point.
 pub struct Tables<'a> {
     /// Three entries a point: x, y, z.
     pub points: &'a mut [u32],
@@ -191,35 +207,41 @@ unsafe extern "C" {
         x: u32, y: u32, z: u32,
         points: *mut u32, points_len: usize, corners: *mut u16, corners_len: usize,
         neighbours: *mut u16, neighbours_len: usize, work: *mut u16, work_len: usize,
+        corrections: *mut i32, corrections_len: usize,
     ) -> Started;
     fn gantry_insert(
         mesh: Record,
         points: *mut u32, points_len: usize, corners: *mut u16, corners_len: usize,
         neighbours: *mut u16, neighbours_len: usize, work: *mut u16, work_len: usize,
+        corrections: *mut i32, corrections_len: usize,
         x: u32, y: u32, z: u32,
     ) -> Inserted;
     fn gantry_insert_answers(
         mesh: Record,
         points: *mut u32, points_len: usize, corners: *mut u16, corners_len: usize,
         neighbours: *mut u16, neighbours_len: usize, work: *mut u16, work_len: usize,
+        corrections: *mut i32, corrections_len: usize,
         answers: *const u8, answers_len: usize, x: u32, y: u32, z: u32,
     ) -> Inserted;
     fn gantry_look(
         mesh: Record,
         points: *mut u32, points_len: usize, corners: *mut u16, corners_len: usize,
         neighbours: *mut u16, neighbours_len: usize, work: *mut u16, work_len: usize,
+        corrections: *const i32, corrections_len: usize,
         marks: *mut u8, marks_len: usize, x: u32, y: u32, z: u32,
     ) -> Looked;
     fn gantry_insert_marked(
         mesh: Record,
         points: *mut u32, points_len: usize, corners: *mut u16, corners_len: usize,
         neighbours: *mut u16, neighbours_len: usize, work: *mut u16, work_len: usize,
+        corrections: *mut i32, corrections_len: usize,
         marks: *const u8, marks_len: usize, x: u32, y: u32, z: u32,
     ) -> Inserted;
     fn gantry_insert_list(
         mesh: Record,
         points: *mut u32, points_len: usize, corners: *mut u16, corners_len: usize,
         neighbours: *mut u16, neighbours_len: usize, work: *mut u16, work_len: usize,
+        corrections: *mut i32, corrections_len: usize,
         nodes: *const u32, nodes_len: usize,
     ) -> Listed;
     fn gantry_locate(
@@ -228,6 +250,20 @@ unsafe extern "C" {
         neighbours: *mut u16, neighbours_len: usize, work: *mut u16, work_len: usize,
         x: u32, y: u32, z: u32,
     ) -> Located;
+    fn gantry_correction(
+        mesh: Record,
+        points: *mut u32, points_len: usize, corners: *mut u16, corners_len: usize,
+        neighbours: *mut u16, neighbours_len: usize, work: *mut u16, work_len: usize,
+        corrections: *const i32, corrections_len: usize,
+        x: u32, y: u32, z: u32,
+    ) -> Corrected;
+    fn gantry_set_correction(
+        mesh: Record,
+        points: *mut u32, points_len: usize, corners: *mut u16, corners_len: usize,
+        neighbours: *mut u16, neighbours_len: usize, work: *mut u16, work_len: usize,
+        corrections: *mut i32, corrections_len: usize,
+        point: u32, x: i32, y: i32, z: i32,
+    ) -> u8;
     fn gantry_check(
         mesh: Record,
         points: *mut u32, points_len: usize, corners: *mut u16, corners_len: usize,
@@ -281,54 +317,103 @@ pub fn sphere_test([a, b, c, d]: [Position; 4], p: Position) -> Sphere {
     )
 }
 
-/// `gantry_start`: the eight corners and six cells of a box. Refusals 1 2.
-pub fn start([x, y, z]: Position, tables: &mut Tables) -> Started {
-    call!(gantry_start(x, y, z; tables;))
+/// `gantry_start`: the eight corners, with corrections 0, and six cells of a box. Refusals 1 2.
+pub fn start([x, y, z]: Position, tables: &mut Tables, corrections: &mut [i32]) -> Started {
+    call!(gantry_start(x, y, z; tables; corrections.as_mut_ptr(), corrections.len()))
 }
 
-/// `gantry_insert`: one node, by the sphere test. Refusals 1 to 8.
-pub fn insert(mesh: Record, tables: &mut Tables, [x, y, z]: Position) -> Inserted {
-    call!(gantry_insert(mesh; tables; x, y, z))
+/// `gantry_insert`: one node, by the sphere test. Refusals 1 2 3 4 5 12 6 7 8.
+pub fn insert(
+    mesh: Record,
+    tables: &mut Tables,
+    corrections: &mut [i32],
+    [x, y, z]: Position,
+) -> Inserted {
+    call!(gantry_insert(mesh; tables; corrections.as_mut_ptr(), corrections.len(), x, y, z))
 }
 
 /// `gantry_insert_answers`: one node, by a byte for each cell number below the used length, nonzero for inside its sphere; a
-/// freed number's is ignored. Refusals 1 to 8.
+/// freed number's is ignored. Refused as [`insert`] is.
 pub fn insert_answers(
     mesh: Record,
     tables: &mut Tables,
+    corrections: &mut [i32],
     answers: &[u8],
     [x, y, z]: Position,
 ) -> Inserted {
-    call!(gantry_insert_answers(mesh; tables; answers.as_ptr(), answers.len(), x, y, z))
+    call!(gantry_insert_answers(
+        mesh; tables; corrections.as_mut_ptr(), corrections.len(), answers.as_ptr(), answers.len(), x, y, z
+    ))
 }
 
 /// `gantry_look`: the report of a node's insertion by the sphere test, and a mark for each cell number below the used length,
-/// 1 where the node would replace the cell and 0 elsewhere; marks beyond stay. Refusals 1 to 8, then 10.
-pub fn look(mesh: Record, tables: &mut Tables, marks: &mut [u8], [x, y, z]: Position) -> Looked {
-    call!(gantry_look(mesh; tables; marks.as_mut_ptr(), marks.len(), x, y, z))
+/// 1 where the node would replace the cell and 0 elsewhere; marks beyond stay. Refused as [`insert`] is, then with 10.
+pub fn look(
+    mesh: Record,
+    tables: &mut Tables,
+    corrections: &[i32],
+    marks: &mut [u8],
+    [x, y, z]: Position,
+) -> Looked {
+    call!(gantry_look(
+        mesh; tables; corrections.as_ptr(), corrections.len(), marks.as_mut_ptr(), marks.len(), x, y, z
+    ))
 }
 
-/// `gantry_insert_marked`: one node, by the sphere test, only if a look would now give these marks. Refusals 1 to 8, then
-/// 14.
+/// `gantry_insert_marked`: one node, by the sphere test, only if a look would now give these marks. Refused as [`insert`] is,
+/// then with 14.
 pub fn insert_marked(
     mesh: Record,
     tables: &mut Tables,
+    corrections: &mut [i32],
     marks: &[u8],
     [x, y, z]: Position,
 ) -> Inserted {
-    call!(gantry_insert_marked(mesh; tables; marks.as_ptr(), marks.len(), x, y, z))
+    call!(gantry_insert_marked(
+        mesh; tables; corrections.as_mut_ptr(), corrections.len(), marks.as_ptr(), marks.len(), x, y, z
+    ))
 }
 
 /// `gantry_insert_list`: nodes, three numbers each, up to the first that is refused; one or two numbers after the last whole
-/// node are not read. Refusals 1 to 8.
-pub fn insert_list(mesh: Record, tables: &mut Tables, nodes: &[u32]) -> Listed {
-    call!(gantry_insert_list(mesh; tables; nodes.as_ptr(), nodes.len()))
+/// node are not read. Each is refused as by [`insert`].
+pub fn insert_list(
+    mesh: Record,
+    tables: &mut Tables,
+    corrections: &mut [i32],
+    nodes: &[u32],
+) -> Listed {
+    call!(gantry_insert_list(
+        mesh; tables; corrections.as_mut_ptr(), corrections.len(), nodes.as_ptr(), nodes.len()
+    ))
 }
 
 /// `gantry_locate`: of the cells that hold a position, the one whose four corner numbers, sorted upward, come first in order.
 /// Refusals 1 2 3 4 7.
 pub fn locate(mesh: Record, tables: &mut Tables, [x, y, z]: Position) -> Located {
     call!(gantry_locate(mesh; tables; x, y, z))
+}
+
+/// `gantry_correction`: the correction of a position, by the corrections of the located cell's corners. Refusals 1 2 3 4 12 7.
+pub fn correction(
+    mesh: Record,
+    tables: &mut Tables,
+    corrections: &[i32],
+    [x, y, z]: Position,
+) -> Corrected {
+    call!(gantry_correction(mesh; tables; corrections.as_ptr(), corrections.len(), x, y, z))
+}
+
+/// `gantry_set_correction`: gives a point these corrections, and answers the refusal, or 0. Refusals 1 2 3 13 12.
+pub fn set_correction(
+    mesh: Record,
+    tables: &mut Tables,
+    corrections: &mut [i32],
+    point: u32,
+    [x, y, z]: [i32; 3],
+) -> u8 {
+    call!(gantry_set_correction(
+        mesh; tables; corrections.as_mut_ptr(), corrections.len(), point, x, y, z
+    ))
 }
 
 /// `gantry_check`: whether record and tables are a mesh.
@@ -379,6 +464,8 @@ const _: () = {
     assert!(size_of::<Listed>() == 36 && offset_of!(Listed, mesh) == 4);
     assert!(offset_of!(Listed, place) == 32);
     assert!(size_of::<Located>() == 8 && offset_of!(Located, cell) == 4);
+    assert!(size_of::<Corrected>() == 16 && offset_of!(Corrected, x) == 4);
+    assert!(offset_of!(Corrected, y) == 8 && offset_of!(Corrected, z) == 12);
     assert!(size_of::<Sphere>() == 16 && offset_of!(Sphere, answer) == 1);
     assert!(offset_of!(Sphere, t) == 8);
     assert!(size_of::<Read>() == 20 && offset_of!(Read, x) == 4);

@@ -46,7 +46,7 @@ macro_rules! refusals {
 }
 
 refusals! {
-    Short = 1, "short", "room for fewer than 8 points or 6 cells, or fewer answer bytes than the used length";
+    Short = 1, "short", "room for fewer than 8 points or 6 cells; fewer answers than the used length, or corrections than 3 a point of room";
     Box = 2, "box", "a side is 0 or above 131,072";
     NoMesh = 3, "no mesh", "record and tables fail the mesh check",
         "The tables of a [`Mesh`](crate::Mesh) never do.";
@@ -59,6 +59,10 @@ refusals! {
     Trailer = 9, "trailer", "a file under 20 bytes, or a wrong count or distance in its trailer";
     NoPlace = 10, "no place", "the output is shorter than what is to be written";
     FlatCell = 11, "flat cell", "a sphere test on a cell of volume 0 or less";
+    OutOfRange = 12, "out of range",
+        "a correction outside -1,000 to 1,000, handed in or standing in the table for a point of the mesh",
+        "Those of a [`Mesh`](crate::Mesh) are in range: only one that is handed in can be refused.";
+    NoPoint = 13, "no point", "a point number that is not in the mesh";
     OtherMarks = 14, "other marks", "the marks handed in are too few, or not those that a look would now give",
         "Of a [`Look`](crate::Look) that is out of date.";
     UnequalSides = 19, "unequal sides", "the boxes of two files to be merged differ in a side";

@@ -13,10 +13,10 @@ use gantry::{
 fn numbers_and_names_are_the_table_s() {
     let names = Refusal::ALL.map(Refusal::name);
     let table = "short, box, no mesh, outside, taken, points full, unheld, cells full, trailer, no place, flat cell, \
-                 other marks, unequal sides";
+                 out of range, no point, other marks, unequal sides";
     assert_eq!(names.join(", "), table);
     let numbers = Refusal::ALL.map(Refusal::number);
-    assert_eq!(numbers, [1, 2, 3, 4, 5, 6, 7, 8, 9, 10, 11, 14, 19]);
+    assert_eq!(numbers, [1, 2, 3, 4, 5, 6, 7, 8, 9, 10, 11, 12, 13, 14, 19]);
     for number in 0..=u8::MAX {
         let refusal = Refusal::ALL.into_iter().find(|r| r.number() == number);
         assert_eq!(Refusal::from_number(number), refusal);

@@ -42,6 +42,11 @@ AT(gantry_listed, place, 32);
 SIZE(gantry_located, 8);
 AT(gantry_located, refusal, 0);
 AT(gantry_located, cell, 4);
+SIZE(gantry_corrected, 16);
+AT(gantry_corrected, refusal, 0);
+AT(gantry_corrected, x, 4);
+AT(gantry_corrected, y, 8);
+AT(gantry_corrected, z, 12);
 SIZE(gantry_sphere, 16);
 AT(gantry_sphere, refusal, 0);
 AT(gantry_sphere, answer, 1);
@@ -65,17 +70,21 @@ static_assert(GANTRY_SPHERE_OUTSIDE == 2, "GANTRY_SPHERE_OUTSIDE");
 extern "C" {
 #endif
 #define TABLES uint32_t *, size_t, uint16_t *, size_t, uint16_t *, size_t, uint16_t *, size_t
+#define CORRECTIONS int32_t *, size_t
+#define CORRECTIONS_READ const int32_t *, size_t
 #define SIGNED_POSITION int32_t, int32_t, int32_t
 #define POSITION uint32_t, uint32_t, uint32_t
 int64_t gantry_volume6(SIGNED_POSITION, SIGNED_POSITION, SIGNED_POSITION, SIGNED_POSITION);
 gantry_sphere gantry_sphere_test(POSITION, POSITION, POSITION, POSITION, POSITION);
-gantry_started gantry_start(POSITION, TABLES);
-gantry_inserted gantry_insert(gantry_mesh, TABLES, POSITION);
-gantry_inserted gantry_insert_answers(gantry_mesh, TABLES, const uint8_t *, size_t, POSITION);
-gantry_looked gantry_look(gantry_mesh, TABLES, uint8_t *, size_t, POSITION);
-gantry_inserted gantry_insert_marked(gantry_mesh, TABLES, const uint8_t *, size_t, POSITION);
-gantry_listed gantry_insert_list(gantry_mesh, TABLES, const uint32_t *, size_t);
+gantry_started gantry_start(POSITION, TABLES, CORRECTIONS);
+gantry_inserted gantry_insert(gantry_mesh, TABLES, CORRECTIONS, POSITION);
+gantry_inserted gantry_insert_answers(gantry_mesh, TABLES, CORRECTIONS, const uint8_t *, size_t, POSITION);
+gantry_looked gantry_look(gantry_mesh, TABLES, CORRECTIONS_READ, uint8_t *, size_t, POSITION);
+gantry_inserted gantry_insert_marked(gantry_mesh, TABLES, CORRECTIONS, const uint8_t *, size_t, POSITION);
+gantry_listed gantry_insert_list(gantry_mesh, TABLES, CORRECTIONS, const uint32_t *, size_t);
 gantry_located gantry_locate(gantry_mesh, TABLES, POSITION);
+gantry_corrected gantry_correction(gantry_mesh, TABLES, CORRECTIONS_READ, POSITION);
+uint8_t gantry_set_correction(gantry_mesh, TABLES, CORRECTIONS, uint32_t, SIGNED_POSITION);
 bool gantry_check(gantry_mesh, TABLES);
 gantry_read gantry_read_nodes(const uint8_t *, size_t, uint32_t *, size_t);
 gantry_written gantry_write_nodes(gantry_mesh, TABLES, uint8_t *, size_t);

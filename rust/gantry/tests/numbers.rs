@@ -3,7 +3,7 @@
 mod common;
 
 use common::lattice;
-use gantry::{raw, Mesh};
+use gantry::{raw, Mesh, Position};
 
 fn numbers(mesh: &Mesh) -> Vec<usize> {
     mesh.cells().map(|cell| cell.number).collect()
@@ -117,6 +117,7 @@ struct Owned {
     corners: [u16; 88],
     neighbours: [u16; 88],
     work: [u16; 66],
+    corrections: [i32; 30],
 }
 
 impl Owned {
@@ -126,27 +127,59 @@ impl Owned {
             corners: [0; 88],
             neighbours: [0; 88],
             work: [0; 66],
+            corrections: [0; 30],
         }
     }
 
     fn lend(&mut self) -> raw::Tables<'_> {
+        self.lend_room(22).0
+    }
+
+    fn lend_both(&mut self) -> (raw::Tables<'_>, &mut [i32]) {
         self.lend_room(22)
     }
 
-    fn lend_room(&mut self, cells: usize) -> raw::Tables<'_> {
-        raw::Tables {
+    /// The tables with room for so many cells, and the corrections.
+    fn lend_room(&mut self, cells: usize) -> (raw::Tables<'_>, &mut [i32]) {
+        let tables = raw::Tables {
             points: &mut self.points,
             corners: &mut self.corners[..4 * cells],
             neighbours: &mut self.neighbours[..4 * cells],
             work: &mut self.work[..3 * cells],
-        }
+        };
+        (tables, &mut self.corrections)
+    }
+
+    fn start(&mut self, sides: Position) -> raw::Started {
+        let (mut tables, corrections) = self.lend_both();
+        raw::start(sides, &mut tables, corrections)
+    }
+
+    fn insert(&mut self, mesh: raw::Record, p: Position) -> raw::Inserted {
+        let (mut tables, corrections) = self.lend_both();
+        raw::insert(mesh, &mut tables, corrections, p)
+    }
+
+    fn insert_answers(&mut self, mesh: raw::Record, answers: &[u8], p: Position) -> raw::Inserted {
+        let (mut tables, corrections) = self.lend_both();
+        raw::insert_answers(mesh, &mut tables, corrections, answers, p)
+    }
+
+    fn insert_marked(&mut self, mesh: raw::Record, marks: &[u8], p: Position) -> raw::Inserted {
+        let (mut tables, corrections) = self.lend_both();
+        raw::insert_marked(mesh, &mut tables, corrections, marks, p)
+    }
+
+    fn look(&mut self, mesh: raw::Record, marks: &mut [u8], p: Position) -> raw::Looked {
+        let (mut tables, corrections) = self.lend_both();
+        raw::look(mesh, &mut tables, corrections, marks, p)
     }
 
     /// The started box with one node in it: numbers 0 to 5 are freed, 6 to 17 are the cells.
     fn with_node() -> (Owned, raw::Record) {
         let mut owned = Owned::new();
-        let started = raw::start([4; 3], &mut owned.lend());
-        let inserted = raw::insert(started.mesh, &mut owned.lend(), [1, 2, 3]);
+        let started = owned.start([4; 3]);
+        let inserted = owned.insert(started.mesh, [1, 2, 3]);
         assert_eq!(inserted.refusal, 0);
         (owned, inserted.mesh)
     }
@@ -155,9 +188,9 @@ impl Owned {
 #[test]
 fn chain_and_used_length_of_a_record() {
     let mut owned = Owned::new();
-    let refused = raw::start([0; 3], &mut owned.lend());
+    let refused = owned.start([0; 3]);
     assert_eq!((refused.refusal, refused.mesh), (2, raw::Record::default()));
-    let mesh = raw::start([4; 3], &mut owned.lend()).mesh;
+    let mesh = owned.start([4; 3]).mesh;
     assert_eq!((mesh.cells, mesh.chain, mesh.used), (6, 65_535, 6));
     let (owned, mesh) = Owned::with_node();
     assert_eq!((mesh.cells, mesh.chain, mesh.used), (12, 5, 18));
@@ -179,7 +212,7 @@ fn wrong_chains_are_refused() {
         wrong(&mut owned, &mut mesh);
         assert!(!raw::check(mesh, &mut owned.lend()));
         let located = raw::locate(mesh, &mut owned.lend(), [2; 3]);
-        let inserted = raw::insert(mesh, &mut owned.lend(), [2; 3]);
+        let inserted = owned.insert(mesh, [2; 3]);
         assert_eq!([located.refusal, inserted.refusal], [3; 2]);
         assert_eq!(inserted.mesh, mesh);
     };
@@ -212,9 +245,9 @@ fn wrong_chains_are_refused() {
 #[test]
 fn less_room_than_the_used_length() {
     let (mut owned, mesh) = Owned::with_node();
-    assert!(raw::check(mesh, &mut owned.lend_room(18)));
-    assert!(!raw::check(mesh, &mut owned.lend_room(17)));
-    let located = raw::locate(mesh, &mut owned.lend_room(17), [2; 3]);
+    assert!(raw::check(mesh, &mut owned.lend_room(18).0));
+    assert!(!raw::check(mesh, &mut owned.lend_room(17).0));
+    let located = raw::locate(mesh, &mut owned.lend_room(17).0, [2; 3]);
     assert_eq!(located.refusal, 3);
 }
 
@@ -222,21 +255,21 @@ fn less_room_than_the_used_length() {
 fn marks_up_to_the_used_length() {
     let (p, mut marks) = ([1, 2, 3], [7; 9]);
     let mut owned = Owned::new();
-    let mesh = raw::start([4; 3], &mut owned.lend()).mesh;
-    let short = raw::look(mesh, &mut owned.lend(), &mut marks[..5], p);
+    let mesh = owned.start([4; 3]).mesh;
+    let short = owned.look(mesh, &mut marks[..5], p);
     assert_eq!((short.refusal, short.after, marks), (10, 0, [7; 9]));
-    let looked = raw::look(mesh, &mut owned.lend(), &mut marks, p);
+    let looked = owned.look(mesh, &mut marks, p);
     assert_eq!((looked.refusal, looked.after), (0, 6));
     assert_eq!(marks, [1, 1, 1, 1, 1, 1, 7, 7, 7]);
     let mut refused = |marks: &[u8]| {
-        let answer = raw::insert_marked(mesh, &mut owned.lend(), marks, p);
+        let answer = owned.insert_marked(mesh, marks, p);
         assert_eq!(answer.mesh, mesh);
         answer.refusal
     };
     assert_eq!(refused(&marks[..5]), 14);
     assert_eq!(refused(&[1, 1, 1, 1, 1, 2]), 14);
     assert_eq!(refused(&[1, 1, 1, 1, 1, 0]), 14);
-    let inserted = raw::insert_marked(mesh, &mut owned.lend(), &marks, p);
+    let inserted = owned.insert_marked(mesh, &marks, p);
     assert_eq!((inserted.refusal, inserted.mesh.cells), (0, 12));
 }
 
@@ -245,23 +278,23 @@ fn marks_up_to_the_used_length() {
 fn bytes_of_freed_numbers() {
     let (mut owned, mesh) = Owned::with_node();
     let (p, mut marks) = ([4, 4, 2], [7; 19]);
-    let short = raw::look(mesh, &mut owned.lend(), &mut marks[..17], p);
+    let short = owned.look(mesh, &mut marks[..17], p);
     assert_eq!((short.refusal, marks), (10, [7; 19]));
-    let looked = raw::look(mesh, &mut owned.lend(), &mut marks, p);
+    let looked = owned.look(mesh, &mut marks, p);
     assert_eq!((looked.refusal, looked.after), (0, 4));
     let expected: [u8; 18] = std::array::from_fn(|number| [6, 8, 10, 16].contains(&number).into());
     assert_eq!((&marks[..18], marks[18]), (&expected[..], 7));
     let mut other = marks;
     other[0] = 1;
     for wrong in [&marks[..17], &other] {
-        let refused = raw::insert_marked(mesh, &mut owned.lend(), wrong, p);
+        let refused = owned.insert_marked(mesh, wrong, p);
         assert_eq!(refused.refusal, 14);
     }
-    let short = raw::insert_answers(mesh, &mut owned.lend(), &[0; 17], p);
+    let short = owned.insert_answers(mesh, &[0; 17], p);
     assert_eq!(short.refusal, 1);
     // A yes for every freed number: the cavity is the two cells at the box edge that holds the node.
     let answers: [u8; 18] = std::array::from_fn(|number| (number < 6).into());
-    let answered = raw::insert_answers(mesh, &mut owned.lend(), &answers, p);
+    let answered = owned.insert_answers(mesh, &answers, p);
     assert_eq!((answered.refusal, answered.before), (0, 2));
     assert!(raw::check(answered.mesh, &mut owned.lend()));
 }

@@ -8,6 +8,8 @@ pub const POINT_LIMIT: usize = 1_024;
 pub const CELL_LIMIT: usize = 4_096;
 /// A node file's count is at most the points that are not box corners.
 pub const NODE_LIMIT: usize = POINT_LIMIT - 8;
+/// Corrections are from minus this to this.
+pub const CORRECTION_LIMIT: i32 = 1_000;
 
 pub type Position = [u32; 3];
 
@@ -32,12 +34,14 @@ impl Mesh {
     }
 }
 
-/// The four tables that every call on a mesh is lent.
+/// The four tables that every call on a mesh is lent, and the corrections, three a point: a start, insertions, looks and the two
+/// calls of corrections are lent those, and the others do not touch them.
 pub struct Tables<'a> {
     pub points: &'a mut [u32],
     pub corners: &'a mut [u16],
     pub neighbours: &'a mut [u16],
     pub work: &'a mut [u16],
+    pub corrections: &'a mut [i32],
 }
 
 impl Tables<'_> {
@@ -64,6 +68,7 @@ pub struct Owned {
     pub corners: Vec<u16>,
     pub neighbours: Vec<u16>,
     pub work: Vec<u16>,
+    pub corrections: Vec<i32>,
 }
 
 impl Owned {
@@ -73,6 +78,7 @@ impl Owned {
             corners: vec![0; 4 * cells],
             neighbours: vec![0; 4 * cells],
             work: vec![0; 3 * cells],
+            corrections: vec![0; 3 * points],
         }
     }
 
@@ -86,6 +92,7 @@ impl Owned {
             corners: &mut self.corners,
             neighbours: &mut self.neighbours,
             work: &mut self.work,
+            corrections: &mut self.corrections,
         }
     }
 }
@@ -193,6 +200,34 @@ pub struct Listed {
 pub struct Located {
     pub refusal: u8,
     pub cell: u32,
+}
+
+/// A position's correction on each axis.
+#[repr(C)]
+#[derive(Clone, Copy, Debug, Default, PartialEq, Eq)]
+pub struct Corrected {
+    pub refusal: u8,
+    pub x: i32,
+    pub y: i32,
+    pub z: i32,
+}
+
+impl Corrected {
+    pub fn refused(refusal: u8) -> Corrected {
+        Corrected {
+            refusal,
+            ..Corrected::default()
+        }
+    }
+
+    pub fn by([x, y, z]: [i32; 3]) -> Corrected {
+        Corrected {
+            refusal: 0,
+            x,
+            y,
+            z,
+        }
+    }
 }
 
 pub const INSIDE: u8 = 1;

@@ -1,7 +1,8 @@
-//! What an insertion goes by: tests 4 to 8, the corrected cavity and the report. A look ends here.
+//! What an insertion goes by: tests 4 to 8 with 12 among them, the corrected cavity and the report. A look ends here.
 
 use crate::calls::{in_box, Looked, Position, Tables};
 use crate::cavity::{Answers, Cavity};
+use crate::corrections::are_in_range;
 use crate::loaded::Loaded;
 
 /// A node's corrected cavity, and what else its report and marks need.
@@ -13,7 +14,7 @@ pub struct Found<'a> {
     pub least: f64,
 }
 
-/// Tests 4 to 7, and the cavity, in tables that pass the mesh check.
+/// Tests 4, 5, 12, 6 and 7, and the cavity, in tables that pass the mesh check.
 pub fn find<'a>(
     mesh: &'a Loaded,
     tables: &Tables,
@@ -23,8 +24,11 @@ pub fn find<'a>(
     if !in_box(mesh.record.sides(), p) {
         return Err(4);
     }
-    if mesh.points.contains(&p) {
-        return Err(5);
+    let is_out_of_range = !are_in_range(mesh.rules, mesh.record, tables);
+    let is_taken = mesh.points.contains(&p);
+    match mesh.rules.node_refusal(is_taken, is_out_of_range) {
+        0 => {}
+        refusal => return Err(refusal),
     }
     if mesh.points.len() == tables.point_capacity() {
         return Err(6);

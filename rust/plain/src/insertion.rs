@@ -2,7 +2,7 @@
 
 use crate::calls::{Inserted, Listed, Mesh, Position, Tables};
 pub use crate::cavity::Answers;
-use crate::check::mesh_refusal;
+use crate::corrections::{self, lent_refusal};
 use crate::found::{find, Found};
 use crate::loaded::Loaded;
 use crate::rules::{RightRules, Rules};
@@ -57,7 +57,7 @@ fn insert_one(
         Answers::SphereTest => usize::MAX,
         Answers::Given(bytes) => bytes.len(),
     };
-    let answer = match mesh_refusal(rules, mesh, tables, answer_bytes) {
+    let answer = match lent_refusal(rules, mesh, tables, answer_bytes) {
         0 => insert_in_mesh(rules, mesh, tables, answers, marks, p),
         refusal => Err(refusal),
     };
@@ -71,7 +71,7 @@ pub fn insert_list_with(
     tables: &mut Tables,
     nodes: &[u32],
 ) -> Listed {
-    let answer = match mesh_refusal(rules, mesh, tables, usize::MAX) {
+    let answer = match lent_refusal(rules, mesh, tables, usize::MAX) {
         0 => insert_nodes(rules, mesh, tables, nodes),
         refusal => Listed {
             refusal,
@@ -120,9 +120,20 @@ fn insert_in_mesh(
     let found = find(&loaded, tables, answers, p)?;
     let are_other = marks.is_some_and(|marks| are_other(&found, marks));
     match rules.last_refusal(found.is_too_large(tables), are_other) {
-        0 => Ok(put_in(mesh, tables, &found)),
+        0 => {
+            start_correction(tables, &found);
+            Ok(put_in(mesh, tables, &found))
+        }
         refusal => Err(refusal),
     }
+}
+
+/// The correction of the new node, by the cells before it goes in.
+fn start_correction(tables: &mut Tables, found: &Found) {
+    let (mesh, point) = (found.cavity.mesh, found.point().into());
+    let before = corrections::of_position(mesh, tables, found.cavity.p).unwrap_or_default();
+    let standing = corrections::of_point(tables, point);
+    corrections::put(tables, point, mesh.rules.node_starts(before, standing));
 }
 
 /// "If the marks differ or are too few."

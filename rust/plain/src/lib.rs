@@ -6,6 +6,7 @@
 pub mod calls;
 pub mod cavity;
 pub mod check;
+pub mod corrections;
 pub mod found;
 pub mod geometry;
 pub mod insertion;
@@ -22,6 +23,7 @@ pub mod star;
 
 pub use calls::*;
 pub use check::{check, check_with};
+pub use corrections::{correction, correction_with, set_correction, set_correction_with};
 pub use geometry::{sphere_test, sphere_test_with, volume6, OUT_OF_RANGE};
 pub use insertion::{
     insert, insert_answers, insert_list, insert_list_with, insert_marked, insert_marked_with,
@@ -37,13 +39,17 @@ use loaded::{Loaded, STARTED_CORNERS};
 
 /// Starts a mesh in a box: eight points, six cells.
 pub fn start(sides: Position, tables: &mut Tables) -> Started {
-    let answer = started(sides, tables);
+    start_with(&RightRules, sides, tables)
+}
+
+pub fn start_with(rules: &dyn Rules, sides: Position, tables: &mut Tables) -> Started {
+    let answer = started(rules, sides, tables);
     tables.work.fill(0);
     answer
 }
 
-fn started(sides: Position, tables: &mut Tables) -> Started {
-    if tables.are_short() {
+fn started(rules: &dyn Rules, sides: Position, tables: &mut Tables) -> Started {
+    if tables.are_short() || corrections::are_short(rules, tables) {
         return Started::refused(1);
     }
     if !sides_in_range(sides) {
@@ -66,6 +72,7 @@ fn started(sides: Position, tables: &mut Tables) -> Started {
         tables.corners[4 * k..4 * k + 4].copy_from_slice(corners);
         tables.neighbours[4 * k..4 * k + 4].copy_from_slice(&neighbours);
     }
+    rules.start_corrections(tables.corrections);
     Started { refusal: 0, mesh }
 }
 
@@ -89,9 +96,7 @@ fn located(rules: &dyn Rules, mesh: Mesh, tables: &Tables, p: Position) -> Locat
     if !in_box(mesh.sides(), p) {
         return refused(4);
     }
-    let loaded = Loaded::load(rules, mesh, tables);
-    let order = |&c: &usize| rules.order(c, loaded.entries[c].corners);
-    match loaded.holding(p).into_iter().min_by_key(order) {
+    match Loaded::load(rules, mesh, tables).first_holding(p) {
         Some(c) => Located {
             refusal: 0,
             cell: c as u32,

@@ -91,6 +91,12 @@ impl<'a> Loaded<'a> {
             .collect()
     }
 
+    /// The one of these that is located.
+    pub fn first_holding(&self, p: Position) -> Option<usize> {
+        let order = |&c: &usize| self.rules.order(c, self.entries[c].corners);
+        self.holding(p).into_iter().min_by_key(order)
+    }
+
     /// The cell across face i. Only wrong rules leave a number from the used length on.
     pub fn across(&self, c: usize, i: usize) -> Option<usize> {
         let neighbour = self.entries[c].neighbours[i] as usize;

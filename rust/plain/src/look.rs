@@ -2,7 +2,7 @@
 
 use crate::calls::{Looked, Mesh, Position, Tables};
 use crate::cavity::Answers;
-use crate::check::mesh_refusal;
+use crate::corrections::lent_refusal;
 use crate::found::find;
 use crate::loaded::Loaded;
 use crate::rules::{RightRules, Rules};
@@ -19,7 +19,7 @@ pub fn look_with(
     marks: &mut [u8],
     p: Position,
 ) -> Looked {
-    let answer = match mesh_refusal(rules, mesh, tables, usize::MAX) {
+    let answer = match lent_refusal(rules, mesh, tables, usize::MAX) {
         0 => look_in_mesh(rules, mesh, tables, marks, p),
         refusal => Err(refusal),
     };

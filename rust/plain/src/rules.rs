@@ -3,6 +3,7 @@
 
 use crate::calls::{Mesh, Position, Tables, NONE};
 use crate::cavity::{Answers, Candidate, Cavity, Face};
+use crate::corrections::Correction;
 use crate::found::Found;
 use crate::loaded::{Chain, End, Loaded};
 use crate::numbers::{self, Free};
@@ -151,6 +152,56 @@ pub trait Rules {
     fn order(&self, _cell: usize, mut corners: [u16; 4]) -> [u16; 4] {
         corners.sort();
         corners
+    }
+
+    /// Entries of a correction table for so many points of capacity: fewer "than three entries for each point of capacity is 1".
+    fn corrections_wanted(&self, capacity: usize) -> usize {
+        3 * capacity
+    }
+
+    /// Of a start: "box corners start at 0".
+    fn start_corrections(&self, corrections: &mut [i32]) {
+        // As many as there are, where wrong rules let a short table pass.
+        corrections.iter_mut().take(24).for_each(|entry| *entry = 0);
+    }
+
+    /// How many points must have their corrections in range: those "standing in the table for a point of the mesh".
+    fn points_in_range(&self, mesh: Mesh, _capacity: usize) -> usize {
+        mesh.points as usize
+    }
+
+    /// Of a node, or 0: "12 for a correction out of range" comes after 5.
+    fn node_refusal(&self, is_taken: bool, is_out_of_range: bool) -> u8 {
+        match (is_taken, is_out_of_range) {
+            (true, _) => 5,
+            (false, true) => 12,
+            (false, false) => 0,
+        }
+    }
+
+    /// Of a setting, or 0: "12 for a correction out of range, handed in or standing in the table .., 13 for a point number not in
+    /// the mesh, .. 13 first".
+    fn setting_refusal(&self, is_no_point: bool, is_given_wrong: bool, is_any_wrong: bool) -> u8 {
+        match (is_no_point, is_given_wrong || is_any_wrong) {
+            (true, _) => 13,
+            (false, true) => 12,
+            (false, false) => 0,
+        }
+    }
+
+    /// What the sum for a position is divided by: "the cell's six-fold volume".
+    fn divisor(&self, mesh: &Loaded, cell: usize) -> i128 {
+        mesh.volume(cell)
+    }
+
+    /// A sum over a volume above 0, "rounded to the nearest whole number, halves away from zero".
+    fn rounded(&self, sum: i128, volume: i128) -> i128 {
+        sum.signum() * ((2 * sum.abs() + volume) / (2 * volume))
+    }
+
+    /// "A new node starts with the correction its position had before", whatever stands in the table where its own goes.
+    fn node_starts(&self, before: Correction, _standing: Correction) -> Correction {
+        before
     }
 
     /// Of two files: "the first file's nodes in order, then the second's".

@@ -150,6 +150,7 @@ fn refusals_in_order() {
     refuse(&mut kit, &[], [4; 3], [5; 2]);
     refuse(&mut kit, &[], [1, 2, 3], [6; 2]);
     kit.tables.points.resize(27, 0);
+    kit.tables.corrections.resize(27, 0);
     for marks in [&[][..], &[0; 6], &[1; 6], &[2; 9]] {
         refuse(&mut kit, marks, [1, 2, 3], [8; 2]);
     }

@@ -3,7 +3,8 @@
 use plain::{in_box, Answers, Inserted, Listed, Mesh, Position, Tables};
 
 use crate::cavity::{Cavity, Corrected, Scratch};
-use crate::check::{mesh_refusal, used};
+use crate::check::used;
+use crate::corrections::{are_in_range, in_cell, lent_refusal};
 use crate::look::are_those_of;
 use crate::star::write_star;
 
@@ -32,18 +33,19 @@ fn insert_one(
         Answers::SphereTest => usize::MAX,
         Answers::Given(bytes) => bytes.len(),
     };
-    let refusal = mesh_refusal(mesh, tables, answer_bytes);
+    let refusal = lent_refusal(mesh, tables, answer_bytes);
     if refusal != 0 {
         return Inserted::refused(refusal, mesh);
     }
-    let answer = insert_in_mesh(mesh, tables, &mut Scratch::new(), answers, marks, p);
+    let mut scratch = Scratch::new(are_in_range(mesh, tables));
+    let answer = insert_in_mesh(mesh, tables, &mut scratch, answers, marks, p);
     tables.work.fill(0);
     answer.unwrap_or_else(|refusal| Inserted::refused(refusal, mesh))
 }
 
 pub fn insert_list(mesh: Mesh, tables: &mut Tables, nodes: &[u32]) -> Listed {
     tables.work.fill(0);
-    let refusal = mesh_refusal(mesh, tables, usize::MAX);
+    let refusal = lent_refusal(mesh, tables, usize::MAX);
     if refusal != 0 {
         return Listed {
             refusal,
@@ -57,7 +59,7 @@ pub fn insert_list(mesh: Mesh, tables: &mut Tables, nodes: &[u32]) -> Listed {
 }
 
 fn insert_nodes(mut mesh: Mesh, tables: &mut Tables, nodes: &[u32]) -> Listed {
-    let mut scratch = Scratch::new();
+    let mut scratch = Scratch::new(are_in_range(mesh, tables));
     let (nodes, _) = nodes.as_chunks();
     for (place, &p) in nodes.iter().enumerate() {
         match insert_in_mesh(mesh, tables, &mut scratch, Answers::SphereTest, None, p) {
@@ -88,18 +90,21 @@ fn insert_in_mesh(
     p: Position,
 ) -> Result<Inserted, u8> {
     let corrected = find(mesh, tables, scratch, answers, p)?;
-    let used = mesh.used as usize;
-    if marks.is_some_and(|marks| !are_those_of(marks, used, corrected.cells(tables))) {
+    let entries = mesh.used as usize;
+    if marks.is_some_and(|marks| !are_those_of(marks, entries, corrected.cells(tables))) {
         return Err(14);
     }
     let report = corrected.report(mesh);
+    let (points, corners, _) = used(mesh, tables);
+    let correction = in_cell(points, &corners[corrected.base], tables.corrections, p);
+    tables.corrections.as_chunks_mut().0[mesh.points as usize] = correction;
     tables.points.as_chunks_mut().0[mesh.points as usize] = p;
     let mesh = write_star(mesh, tables, &mut scratch.first_new, &corrected);
     forget(tables, &corrected);
     Ok(report.with(mesh))
 }
 
-/// Tests 4 to 8, and the corrected cavity; nothing but the work area is written.
+/// Tests 4, 5, 12, 6, 7 and 8, and the corrected cavity; nothing but the work area is written.
 pub fn find(
     mesh: Mesh,
     tables: &mut Tables,
@@ -114,6 +119,9 @@ pub fn find(
     scratch.codes.set(used(mesh, tables).0, p);
     if scratch.codes.is_taken(points) {
         return Err(5);
+    }
+    if !scratch.in_range {
+        return Err(12);
     }
     if points == tables.point_capacity() {
         return Err(6);
@@ -149,11 +157,13 @@ fn corrected_cavity(
         least: f64::INFINITY,
     };
     cavity.add_base(&scratch.codes, answers, p);
+    let base = cavity.list[0].into();
     cavity.grow(answers, p);
     let before = cavity.len;
     let made = cavity.correct(scratch);
     cavity.sort();
     Corrected {
+        base,
         before,
         after: cavity.len,
         made,

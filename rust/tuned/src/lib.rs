@@ -7,6 +7,7 @@
 
 mod cavity;
 mod check;
+mod corrections;
 mod geometry;
 mod insertion;
 mod locate;
@@ -16,6 +17,7 @@ mod side_codes;
 mod star;
 
 pub use check::check;
+pub use corrections::{correction, set_correction};
 pub use geometry::{sphere_test, volume6};
 pub use insertion::{insert, insert_answers, insert_list, insert_marked};
 pub use locate::locate;
@@ -23,6 +25,6 @@ pub use look::look;
 pub use nodefile::{merge, write_nodes};
 pub use plain::{read_nodes, start};
 pub use plain::{
-    Inserted, Listed, Located, Looked, Mesh, Owned, Position, Read, Sphere, Started, Tables,
-    Written,
+    Corrected, Inserted, Listed, Located, Looked, Mesh, Owned, Position, Read, Sphere, Started,
+    Tables, Written,
 };

@@ -3,13 +3,13 @@
 use plain::{Answers, Looked, Mesh, Position, Tables};
 
 use crate::cavity::Scratch;
-use crate::check::mesh_refusal;
+use crate::corrections::{are_in_range, lent_refusal};
 use crate::insertion::find;
 
 /// "A look answers the report and marks each cell of the corrected spot with byte 1, all other cells with 0."
 pub fn look(mesh: Mesh, tables: &mut Tables, marks: &mut [u8], p: Position) -> Looked {
     tables.work.fill(0);
-    let refusal = mesh_refusal(mesh, tables, usize::MAX);
+    let refusal = lent_refusal(mesh, tables, usize::MAX);
     if refusal != 0 {
         return Looked::refused(refusal);
     }
@@ -24,7 +24,8 @@ fn look_in_mesh(
     marks: &mut [u8],
     p: Position,
 ) -> Result<Looked, u8> {
-    let corrected = find(mesh, tables, &mut Scratch::new(), Answers::SphereTest, p)?;
+    let mut scratch = Scratch::new(are_in_range(mesh, tables));
+    let corrected = find(mesh, tables, &mut scratch, Answers::SphereTest, p)?;
     let marks = marks.get_mut(..mesh.used as usize).ok_or(10)?;
     marks.fill(0);
     for &c in corrected.cells(tables) {

@@ -73,6 +73,24 @@ impl Pair {
         self.mesh = left.mesh;
     }
 
+    fn set_correction(&mut self, point: u32, numbers: [i32; 3]) -> u8 {
+        self.tuned.work.fill(0xAAAA);
+        let left = plain::set_correction(self.mesh, &mut self.plain.lend(), point, numbers);
+        let right = tuned::set_correction(self.mesh, &mut self.tuned.lend(), point, numbers);
+        assert_eq!(left, right);
+        assert_eq!(self.plain, self.tuned);
+        left
+    }
+
+    fn correction(&mut self, p: Position) -> u8 {
+        self.tuned.work.fill(0xAAAA);
+        let left = plain::correction(self.mesh, &mut self.plain.lend(), p);
+        let right = tuned::correction(self.mesh, &mut self.tuned.lend(), p);
+        assert_eq!(left, right);
+        assert_eq!(self.plain, self.tuned);
+        left.refusal
+    }
+
     fn locate(&mut self, p: Position) {
         let left = plain::locate(self.mesh, &mut self.plain.lend(), p);
         assert_eq!(left, tuned::locate(self.mesh, &mut self.tuned.lend(), p));
@@ -142,6 +160,39 @@ fn looks_and_marks() {
         }
     }
     for refusal in [0, 5, 6, 8, 14] {
+        assert!(refusals[refusal] > 0, "{refusal}: {refusals:?}");
+    }
+}
+
+/// Settings, readings and nodes in turn; now and then a number out of range stands in the table.
+#[test]
+fn corrections() {
+    let mut refusals = [0; 14];
+    for seed in 0..30 {
+        let mut random = Random::new(seed);
+        let side = random.pick(&[4, 16, 131_072]);
+        let mut pair = Pair::started([side; 3], 40, 300);
+        for _ in 0..40 {
+            let point = random.below(u64::from(pair.mesh.points) + 1) as u32;
+            let numbers = [0; 3].map(|_| random.below(2_005) as i32 - 1_002);
+            refusals[pair.set_correction(point, numbers) as usize] += 1;
+            pair.correction(position(&mut random, side, 1));
+            pair.correction(position(&mut random, side, side / 2));
+            pair.insert(position(&mut random, side, 1));
+            pair.insert_list(position(&mut random, side, 1).as_slice());
+        }
+        let place = random.index(pair.plain.corrections.len());
+        for tables in [&mut pair.plain, &mut pair.tuned] {
+            tables.corrections[place] = -1_001;
+        }
+        let p = position(&mut random, side, 1);
+        refusals[pair.correction(p) as usize] += 1;
+        pair.insert(p);
+        pair.insert_list(&[p, p].concat());
+        pair.look(p, 300);
+        pair.set_correction(0, [0; 3]);
+    }
+    for refusal in [0, 12, 13] {
         assert!(refusals[refusal] > 0, "{refusal}: {refusals:?}");
     }
 }

@@ -2,6 +2,7 @@
 //! five of document 01's list "Known wrong builds" come first, under its words.
 
 use plain::cavity::{Candidate, Cavity, Face};
+use plain::corrections::Correction;
 use plain::loaded::{Chain, End, Loaded};
 use plain::numbers::Free;
 use plain::packed::Packed;
@@ -13,7 +14,7 @@ pub struct Build {
     pub rules: &'static dyn Rules,
 }
 
-pub const ALL: [Build; 42] = [
+pub const ALL: [Build; 54] = [
     build("zero-visible", &ZeroVisible),
     build("coplanar-starred", &CoplanarStarred),
     build("base-removed", &BaseRemoved),
@@ -56,6 +57,18 @@ pub const ALL: [Build; 42] = [
     build("one-corner-frees", &OneCornerFrees),
     build("freed-neighbours-any", &FreedNeighboursAny),
     build("count-any", &CountAny),
+    build("halves-toward-zero", &HalvesTowardZero),
+    build("halves-up", &HalvesUp),
+    build("halves-to-even", &HalvesToEven),
+    build("volume-of-another-cell", &VolumeOfAnotherCell),
+    build("node-starts-at-0", &NodeStartsAt0),
+    build("node-starts-as-it-stands", &NodeStartsAsItStands),
+    build("range-before-taken", &RangeBeforeTaken),
+    build("range-before-the-point", &RangeBeforeThePoint),
+    build("range-past-the-points", &RangePastThePoints),
+    build("setting-mends", &SettingMends),
+    build("box-corners-not-cleared", &BoxCornersNotCleared),
+    build("one-entry-short", &OneEntryShort),
 ];
 
 const fn build(name: &'static str, rules: &'static dyn Rules) -> Build {
@@ -469,5 +482,119 @@ pub struct CountAny;
 impl Rules for CountAny {
     fn is_cell_count(&self, _count: usize, _cells: usize) -> bool {
         true
+    }
+}
+
+/// A half is rounded toward zero.
+pub struct HalvesTowardZero;
+
+impl Rules for HalvesTowardZero {
+    fn rounded(&self, sum: i128, volume: i128) -> i128 {
+        sum.signum() * ((2 * sum.abs() + volume - 1) / (2 * volume))
+    }
+}
+
+/// A half is rounded up, below zero too: a half is added, and the rest cut off.
+pub struct HalvesUp;
+
+impl Rules for HalvesUp {
+    fn rounded(&self, sum: i128, volume: i128) -> i128 {
+        (2 * sum + volume).div_euclid(2 * volume)
+    }
+}
+
+/// A half is rounded to the even number, as floats are.
+pub struct HalvesToEven;
+
+impl Rules for HalvesToEven {
+    fn rounded(&self, sum: i128, volume: i128) -> i128 {
+        let away = RightRules.rounded(sum, volume);
+        let is_half = 2 * (away * volume - sum).abs() == volume;
+        away - if is_half { away % 2 } else { 0 }
+    }
+}
+
+/// The sum is divided by the volume of the lowest-numbered cell: in a started box all are the same.
+pub struct VolumeOfAnotherCell;
+
+impl Rules for VolumeOfAnotherCell {
+    fn divisor(&self, mesh: &Loaded, _cell: usize) -> i128 {
+        mesh.volume(mesh.cells()[0])
+    }
+}
+
+/// A new node's correction is 0, as a box corner's.
+pub struct NodeStartsAt0;
+
+impl Rules for NodeStartsAt0 {
+    fn node_starts(&self, _before: Correction, _standing: Correction) -> Correction {
+        [0; 3]
+    }
+}
+
+/// A new node's correction is the one that its position has when the node is in: what stands in the table there.
+pub struct NodeStartsAsItStands;
+
+impl Rules for NodeStartsAsItStands {
+    fn node_starts(&self, _before: Correction, standing: Correction) -> Correction {
+        standing
+    }
+}
+
+/// 12 comes before 5.
+pub struct RangeBeforeTaken;
+
+impl Rules for RangeBeforeTaken {
+    fn node_refusal(&self, is_taken: bool, is_out_of_range: bool) -> u8 {
+        match is_out_of_range {
+            true => 12,
+            false => RightRules.node_refusal(is_taken, false),
+        }
+    }
+}
+
+/// 12 comes before 13.
+pub struct RangeBeforeThePoint;
+
+impl Rules for RangeBeforeThePoint {
+    fn setting_refusal(&self, is_no_point: bool, is_given_wrong: bool, is_any_wrong: bool) -> u8 {
+        match is_given_wrong || is_any_wrong {
+            true => 12,
+            false => RightRules.setting_refusal(is_no_point, false, false),
+        }
+    }
+}
+
+/// 12 for what stands past the points of the mesh, too.
+pub struct RangePastThePoints;
+
+impl Rules for RangePastThePoints {
+    fn points_in_range(&self, _mesh: Mesh, capacity: usize) -> usize {
+        capacity
+    }
+}
+
+/// A setting looks at the numbers that are handed in, and not at those that stand in the table.
+pub struct SettingMends;
+
+impl Rules for SettingMends {
+    fn setting_refusal(&self, is_no_point: bool, is_given_wrong: bool, _is_any_wrong: bool) -> u8 {
+        RightRules.setting_refusal(is_no_point, is_given_wrong, false)
+    }
+}
+
+/// A start leaves the box corners' corrections as they stand.
+pub struct BoxCornersNotCleared;
+
+impl Rules for BoxCornersNotCleared {
+    fn start_corrections(&self, _corrections: &mut [i32]) {}
+}
+
+/// A correction table may be an entry short.
+pub struct OneEntryShort;
+
+impl Rules for OneEntryShort {
+    fn corrections_wanted(&self, capacity: usize) -> usize {
+        RightRules.corrections_wanted(capacity).saturating_sub(1)
     }
 }

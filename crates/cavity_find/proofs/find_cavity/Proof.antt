@@ -19,7 +19,7 @@ same-length-2 c = search needs
 returns : tie.Need-returns
 returns c =
     let p = c .before .before .before .before .before .before .before .before .before .before .before .before .before .before .before .before .before .before .before .pre in (
-      found-none (p .0 .mesh) _ (p .0 .position) (c .before .before .before .before .before .before .find-base .ensures) _ (p .4) (c .if1 .taken),
+      found-none (p .0 .mesh) _ (p .0 .position) (c .before .before .before .before .before .before .find-base .ensures) _ _ (p .4) (c .if1 .taken),
       unstamped-later (p .3) (omega arith),
       p .5,
     )

@@ -1,27 +1,32 @@
+use Rattle.gantry_numbers.specs.Numbers.{listedOf}
+use Rattle.gantry_numbers.proofs.Handing.{gives}
+use borrow.Author.Needs.{needs}
 use Rattle.gantry.proofs.gantry_insert_list.Statement.{statement}
 use Rattle.gantry.proofs.gantry_insert_list.Tie as tie
-use Rattle.gantry_numbers.proofs.Handing.{lists}
 
 insert-list-requires : tie.Need-insert-list-requires
-insert-list-requires c κs = tt
+insert-list-requires c κs = search needs
 
 listed-requires : tie.Need-listed-requires
-listed-requires c κs = tt
+listed-requires c κs = search needs
 
 same-length : tie.Need-same-length
-same-length c = c .before .before .before .before .before .before .before .before .before .insert-list .kept .1 .0
+same-length c = search needs
 
 same-length-2 : tie.Need-same-length-2
-same-length-2 c = c .before .before .before .before .before .before .before .before .before .insert-list .kept .1 .1 .0
+same-length-2 c = search needs
 
 same-length-3 : tie.Need-same-length-3
-same-length-3 c = c .before .before .before .before .before .before .before .before .before .insert-list .kept .1 .1 .1 .0
+same-length-3 c = search needs
 
 same-length-4 : tie.Need-same-length-4
-same-length-4 c = c .before .before .before .before .before .before .before .before .before .insert-list .kept .1 .1 .1 .1 .0
+same-length-4 c = search needs
+
+same-length-5 : tie.Need-same-length-5
+same-length-5 c = search needs
 
 returns : tie.Need-returns
-returns c = lists (c .before .before .before .before .before .before .before .before .before .insert-list .ensures) (c .listed .ensures)
+returns c = gives (listedOf (c .before .before .before .before .before .before .before .before .before .before .before .before .before .before .before .before .before .before .before .before .before .args .mesh)) (c .before .before .before .before .before .before .before .before .before .before .insert-list .ensures) (c .listed .ensures)
 
 pub gantry-insert-list-spec : {M : Type 1} → statement M
 gantry-insert-list-spec =
@@ -33,4 +38,5 @@ gantry-insert-list-spec =
     same-length-2
     same-length-3
     same-length-4
+    same-length-5
     returns)

@@ -7,6 +7,7 @@ use gantry::{Refusal, Stopped};
 use super::queries::refused_at;
 use super::{one_standard_input, survey};
 use crate::check::{conditions, is_mesh, says, Outcome};
+use crate::corrections;
 use crate::grid::Grid;
 use crate::input::Source;
 use crate::listing;
@@ -76,11 +77,17 @@ impl Shown {
             let message = "--look is at the cells that the builder makes: leave --listing out";
             return Err(Failure::Usage(message.to_string()));
         }
-        one_standard_input([words.listing.as_ref(), words.plain.first()])?;
-        let listing = words.listing.as_ref();
+        let (file, listing) = (words.plain.first(), words.listing.as_ref());
+        let corrections = words.corrections.as_ref();
+        for both in [[listing, file], [corrections, file], [corrections, listing]] {
+            one_standard_input(both)?;
+        }
         let source = listing.map(|name| Source::read(name)).transpose()?;
         let survey = survey(words)?;
-        let built = survey.build()?;
+        let mut built = survey.build()?;
+        if let Some(name) = corrections {
+            corrections::set(&mut built.mesh, &Source::read(name)?)?;
+        }
         let shown = Shown {
             grid: Grid::from(&built.mesh),
             listed: None,
@@ -174,7 +181,10 @@ fn first_difference(one: &str, other: &str) -> Option<usize> {
 
 pub fn svg(words: &Words) -> Result<Done, Failure> {
     let shown = Shown::read(words)?;
-    let text = shown.grid.to_svg(&shown.lines(), shown.replacing.as_ref());
+    let (lines, corrections) = (shown.lines(), shown.built.mesh.corrections());
+    let text = shown
+        .grid
+        .to_svg(&lines, shown.replacing.as_ref(), corrections);
     Ok(shown.done(text))
 }
 

@@ -38,6 +38,14 @@ const OF_PICTURE: &[Choice] = &[
     Choice::Sides,
     Choice::LeaveOut,
 ];
+const OF_SVG: &[Choice] = &[
+    Choice::Output,
+    Choice::Look,
+    Choice::Corrections,
+    Choice::Listing,
+    Choice::Sides,
+    Choice::LeaveOut,
+];
 const OF_TWO_FILES: &[Choice] = &[Choice::Output, Choice::Sides];
 const OF_NUMBERS: &[Choice] = &[Choice::Output];
 
@@ -112,8 +120,10 @@ with the same number. Nothing goes in, and FILE stays as it is.",
         help: "The cells' edges, near ones over far ones. Points are numbered where there are at
 most 64, cells where there are at most 24. With --look, the cells that the node would replace
 are orange and thick, edges that would go are dashed, and the node is a ring. These cells are
-then numbered where there are at most 12, and their corners also where there are more points.",
-        choices: OF_PICTURE,
+then numbered where there are at most 12, and their corners also where there are more points.
+With --corrections, red arrows at the points show where their corrections lead, all at one
+scale; the caption has the longest.",
+        choices: OF_SVG,
         run: cells::svg,
     },
     Command {

@@ -1,7 +1,8 @@
 use gantry::raw::{self, Record};
+use plain::corrections::Correction;
 use plain::{
-    Answers, Inserted, Listed, Located, Looked, Mesh, Position, Read, Sphere, Started, Tables,
-    Written,
+    Answers, Corrected, Inserted, Listed, Located, Looked, Mesh, Position, Read, Sphere, Started,
+    Tables, Written,
 };
 
 use super::Builder;
@@ -33,13 +34,15 @@ fn mesh(record: Record) -> Mesh {
     }
 }
 
-fn lent<'a>(tables: &'a mut Tables) -> raw::Tables<'a> {
-    raw::Tables {
+/// The tables of a mesh, and the corrections.
+fn lent<'a>(tables: &'a mut Tables) -> (raw::Tables<'a>, &'a mut [i32]) {
+    let of_mesh = raw::Tables {
         points: tables.points,
         corners: tables.corners,
         neighbours: tables.neighbours,
         work: tables.work,
-    }
+    };
+    (of_mesh, tables.corrections)
 }
 
 fn inserted(answer: raw::Inserted) -> Inserted {
@@ -77,7 +80,8 @@ impl Builder for Archive {
     }
 
     fn start(&self, sides: Position, tables: &mut Tables) -> Started {
-        let answer = raw::start(sides, &mut lent(tables));
+        let (mut tables, corrections) = lent(tables);
+        let answer = raw::start(sides, &mut tables, corrections);
         Started {
             refusal: answer.refusal,
             mesh: mesh(answer.mesh),
@@ -85,15 +89,16 @@ impl Builder for Archive {
     }
 
     fn insert(&self, mesh: Mesh, tables: &mut Tables, answers: Answers, p: Position) -> Inserted {
-        let (mesh, tables) = (record(mesh), &mut lent(tables));
+        let (mesh, (mut tables, corrections)) = (record(mesh), lent(tables));
         inserted(match answers {
-            Answers::SphereTest => raw::insert(mesh, tables, p),
-            Answers::Given(bytes) => raw::insert_answers(mesh, tables, bytes, p),
+            Answers::SphereTest => raw::insert(mesh, &mut tables, corrections, p),
+            Answers::Given(bytes) => raw::insert_answers(mesh, &mut tables, corrections, bytes, p),
         })
     }
 
     fn look(&self, mesh: Mesh, tables: &mut Tables, marks: &mut [u8], p: Position) -> Looked {
-        let answer = raw::look(record(mesh), &mut lent(tables), marks, p);
+        let (mut tables, corrections) = lent(tables);
+        let answer = raw::look(record(mesh), &mut tables, corrections, marks, p);
         Looked {
             refusal: answer.refusal,
             point: answer.point,
@@ -111,16 +116,13 @@ impl Builder for Archive {
         marks: &[u8],
         p: Position,
     ) -> Inserted {
-        inserted(raw::insert_marked(
-            record(mesh),
-            &mut lent(tables),
-            marks,
-            p,
-        ))
+        let (mesh, (mut tables, corrections)) = (record(mesh), lent(tables));
+        inserted(raw::insert_marked(mesh, &mut tables, corrections, marks, p))
     }
 
     fn insert_list(&self, mesh: Mesh, tables: &mut Tables, nodes: &[u32]) -> Listed {
-        let answer = raw::insert_list(record(mesh), &mut lent(tables), nodes);
+        let (mut tables, corrections) = lent(tables);
+        let answer = raw::insert_list(record(mesh), &mut tables, corrections, nodes);
         Listed {
             refusal: answer.refusal,
             mesh: self::mesh(answer.mesh),
@@ -129,12 +131,30 @@ impl Builder for Archive {
     }
 
     fn locate(&self, mesh: Mesh, tables: &mut Tables, p: Position) -> Located {
-        let raw::Located { refusal, cell } = raw::locate(record(mesh), &mut lent(tables), p);
+        let raw::Located { refusal, cell } = raw::locate(record(mesh), &mut lent(tables).0, p);
         Located { refusal, cell }
     }
 
+    fn correction(&self, mesh: Mesh, tables: &mut Tables, p: Position) -> Corrected {
+        let (mut tables, corrections) = lent(tables);
+        let raw::Corrected { refusal, x, y, z } =
+            raw::correction(record(mesh), &mut tables, corrections, p);
+        Corrected { refusal, x, y, z }
+    }
+
+    fn set_correction(
+        &self,
+        mesh: Mesh,
+        tables: &mut Tables,
+        point: u32,
+        numbers: Correction,
+    ) -> u8 {
+        let (mut tables, corrections) = lent(tables);
+        raw::set_correction(record(mesh), &mut tables, corrections, point, numbers)
+    }
+
     fn check(&self, mesh: Mesh, tables: &mut Tables) -> bool {
-        raw::check(record(mesh), &mut lent(tables))
+        raw::check(record(mesh), &mut lent(tables).0)
     }
 
     fn read_nodes(&self, file: &[u8], nodes: &mut [u32]) -> Read {
@@ -149,7 +169,7 @@ impl Builder for Archive {
     }
 
     fn write_nodes(&self, mesh: Mesh, tables: &mut Tables, out: &mut [u8]) -> Written {
-        written(raw::write_nodes(record(mesh), &mut lent(tables), out))
+        written(raw::write_nodes(record(mesh), &mut lent(tables).0, out))
     }
 
     fn merge(&self, first: &[u8], second: &[u8], out: &mut [u8]) -> Written {

@@ -10,9 +10,10 @@ pub use self::archive::Archive;
 pub use self::plain::Plain;
 pub use self::tuned::Tuned;
 
+use ::plain::corrections::Correction;
 use ::plain::{
-    Answers, Inserted, Listed, Located, Looked, Mesh, Position, Read, Sphere, Started, Tables,
-    Written,
+    Answers, Corrected, Inserted, Listed, Located, Looked, Mesh, Position, Read, Sphere, Started,
+    Tables, Written,
 };
 
 /// The build with this name: plain, tuned, archive, or a wrong one.
@@ -48,6 +49,15 @@ pub trait Builder {
         -> Inserted;
     fn insert_list(&self, mesh: Mesh, tables: &mut Tables, nodes: &[u32]) -> Listed;
     fn locate(&self, mesh: Mesh, tables: &mut Tables, p: Position) -> Located;
+    fn correction(&self, mesh: Mesh, tables: &mut Tables, p: Position) -> Corrected;
+    /// Answers the refusal, or 0.
+    fn set_correction(
+        &self,
+        mesh: Mesh,
+        tables: &mut Tables,
+        point: u32,
+        numbers: Correction,
+    ) -> u8;
     fn check(&self, mesh: Mesh, tables: &mut Tables) -> bool;
     fn read_nodes(&self, file: &[u8], nodes: &mut [u32]) -> Read;
     fn write_nodes(&self, mesh: Mesh, tables: &mut Tables, out: &mut [u8]) -> Written;

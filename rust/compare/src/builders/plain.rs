@@ -1,6 +1,7 @@
+use plain::corrections::Correction;
 use plain::{
-    Answers, Inserted, Listed, Located, Looked, Mesh, Position, Read, RightRules, Rules, Sphere,
-    Started, Tables, Written,
+    Answers, Corrected, Inserted, Listed, Located, Looked, Mesh, Position, Read, RightRules, Rules,
+    Sphere, Started, Tables, Written,
 };
 
 use super::Builder;
@@ -39,7 +40,7 @@ impl Builder for Plain {
     }
 
     fn start(&self, sides: Position, tables: &mut Tables) -> Started {
-        plain::start(sides, tables)
+        plain::start_with(self.rules, sides, tables)
     }
 
     fn insert(&self, mesh: Mesh, tables: &mut Tables, answers: Answers, p: Position) -> Inserted {
@@ -66,6 +67,20 @@ impl Builder for Plain {
 
     fn locate(&self, mesh: Mesh, tables: &mut Tables, p: Position) -> Located {
         plain::locate_with(self.rules, mesh, tables, p)
+    }
+
+    fn correction(&self, mesh: Mesh, tables: &mut Tables, p: Position) -> Corrected {
+        plain::correction_with(self.rules, mesh, tables, p)
+    }
+
+    fn set_correction(
+        &self,
+        mesh: Mesh,
+        tables: &mut Tables,
+        point: u32,
+        numbers: Correction,
+    ) -> u8 {
+        plain::set_correction_with(self.rules, mesh, tables, point, numbers)
     }
 
     fn check(&self, mesh: Mesh, tables: &mut Tables) -> bool {

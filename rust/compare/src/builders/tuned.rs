@@ -1,6 +1,7 @@
+use plain::corrections::Correction;
 use plain::{
-    Answers, Inserted, Listed, Located, Looked, Mesh, Position, Read, Sphere, Started, Tables,
-    Written,
+    Answers, Corrected, Inserted, Listed, Located, Looked, Mesh, Position, Read, Sphere, Started,
+    Tables, Written,
 };
 
 use super::Builder;
@@ -51,6 +52,20 @@ impl Builder for Tuned {
 
     fn locate(&self, mesh: Mesh, tables: &mut Tables, p: Position) -> Located {
         tuned::locate(mesh, tables, p)
+    }
+
+    fn correction(&self, mesh: Mesh, tables: &mut Tables, p: Position) -> Corrected {
+        tuned::correction(mesh, tables, p)
+    }
+
+    fn set_correction(
+        &self,
+        mesh: Mesh,
+        tables: &mut Tables,
+        point: u32,
+        numbers: Correction,
+    ) -> u8 {
+        tuned::set_correction(mesh, tables, point, numbers)
     }
 
     fn check(&self, mesh: Mesh, tables: &mut Tables) -> bool {

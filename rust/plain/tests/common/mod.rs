@@ -1,7 +1,8 @@
 #![allow(dead_code)]
 
+use plain::corrections::Correction;
 use plain::loaded::Loaded;
-use plain::{Inserted, Looked, Mesh, Owned, Position, RightRules};
+use plain::{Corrected, Inserted, Looked, Mesh, Owned, Position, RightRules};
 
 /// A record with tables of its own.
 #[derive(Clone, Debug, PartialEq, Eq)]
@@ -47,6 +48,21 @@ impl Kit {
     pub fn look(&mut self, marks: &mut [u8], p: Position) -> Looked {
         self.tables.work.fill(0xAAAA);
         let answer = plain::look(self.mesh, &mut self.tables.lend(), marks, p);
+        assert!(self.tables.work.iter().all(|&w| w == 0));
+        answer
+    }
+
+    pub fn correction(&mut self, p: Position) -> Corrected {
+        self.tables.work.fill(0xAAAA);
+        let answer = plain::correction(self.mesh, &mut self.tables.lend(), p);
+        assert!(self.tables.work.iter().all(|&w| w == 0));
+        answer
+    }
+
+    /// The refusal, or 0.
+    pub fn set(&mut self, point: u32, numbers: Correction) -> u8 {
+        self.tables.work.fill(0x5555);
+        let answer = plain::set_correction(self.mesh, &mut self.tables.lend(), point, numbers);
         assert!(self.tables.work.iter().all(|&w| w == 0));
         answer
     }

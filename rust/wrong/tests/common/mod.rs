@@ -1,5 +1,6 @@
 #![allow(dead_code)]
 
+use plain::corrections::Correction;
 use plain::geometry::exact_sum;
 use plain::loaded::Loaded;
 use plain::{Answers, Inserted, Mesh, Owned, Position, RightRules, Rules};
@@ -50,6 +51,27 @@ impl Kit {
     /// The box 4, 4, 4 with these nodes put in by the sphere test.
     pub fn measured(nodes: &[Position]) -> Kit {
         Kit::grown(&RightRules, [4; 3], nodes)
+    }
+
+    /// The box 4, 4, 4 in which one point has this correction on each axis, and the others have 0.
+    pub fn corrected(point: u32, number: i32) -> Kit {
+        let mut kit = Kit::started([4; 3]);
+        assert_eq!(kit.set(&RightRules, point, [number; 3]), 0);
+        kit
+    }
+
+    /// The refusal of a setting, or 0.
+    pub fn set(&mut self, rules: &dyn Rules, point: u32, numbers: Correction) -> u8 {
+        plain::set_correction_with(rules, self.mesh, &mut self.tables.lend(), point, numbers)
+    }
+
+    /// What a build reads on the first axis, or a refusal.
+    pub fn correction(&mut self, rules: &dyn Rules, p: Position) -> Result<i32, u8> {
+        let answer = plain::correction_with(rules, self.mesh, &mut self.tables.lend(), p);
+        match answer.refusal {
+            0 => Ok(answer.x),
+            refusal => Err(refusal),
+        }
     }
 
     pub fn loaded(&mut self) -> Loaded<'static> {

@@ -1,0 +1,4 @@
+pub mod Plain
+pub mod Theorem
+pub mod Started
+pub mod Numbers

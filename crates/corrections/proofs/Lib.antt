@@ -1,0 +1,9 @@
+pub mod Rounding
+pub mod Values
+pub mod Refusals
+pub mod Keeping
+pub mod Leaving
+pub mod Listing
+pub mod Starting
+pub mod Attempt
+pub mod Reading

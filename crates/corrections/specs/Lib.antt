@@ -1,0 +1,5 @@
+-- Document 02 §1: corrections at the nodes.
+pub mod Rounding
+pub mod Corrections
+pub mod Calls
+pub mod Inner

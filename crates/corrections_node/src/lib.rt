@@ -1,0 +1,164 @@
+// A node after tests 1 to 3, with its numbers in the table of corrections: nothing is written before every test has passed.
+
+ghost use mathlib.Core.Bool.{true};
+ghost use mathlib.Core.Path.{_≡_};
+ghost use Prim.Native.Nat.{_+_, _*_, _≤_};
+ghost use lib.ListN.{length};
+ghost use Rattle.mesh.specs.Check.{isMesh};
+ghost use Rattle.mesh.specs.Tables.{tablesIn, tablesBefore, tablesAfter, pointCapacity};
+ghost use Rattle.cavity.specs.Answers.{answersOf};
+ghost use Rattle.insertion.specs.Inner.{Scratch};
+ghost use Rattle.corrections.specs.Inner.{Standing, AttemptKeeps};
+use cavity::Node;
+use corrections_tests::early_refusal;
+use corrections_value::correction_in;
+use corrections_value::out_of_range;
+use corrections_value::put_correction;
+use geometry::Position;
+use insertion::Attempt;
+use insertion::Inserted;
+use insertion_find::find;
+use insertion_marks::marks_allow;
+use insertion_star::insert_found;
+use mesh::Mesh;
+
+// A node by the sphere test or by answers handed in, over a table in range; where marks are asked for, only if these are the marks of a
+// look. The new point's numbers are worked out between the two stages, from a cell of the base. What is lent from `state` on serves node
+// after node: after an accepted one it is as it has to be for the next.
+pub fn attempt_node(
+    mesh: Mesh,
+    points: &mut [u32],
+    corners: &mut [u16],
+    neighbours: &mut [u16],
+    corrections: &mut [i32],
+    work: usize,
+    answers: &[u8],
+    handed: bool,
+    marks: &[u8],
+    asked: bool,
+    q: Position,
+    state: &mut [u8],
+    list: &mut [u16],
+    faces: &mut [u8],
+    denied: &mut [u16],
+    exposed: &mut [u8],
+    ranks: &mut [u16],
+    slots: &mut [u16],
+) -> Attempt
+    requires { ⌜ (isMesh mesh (tablesIn points corners neighbours) work ≡ true) × (handed ≡ true → mesh .used ≤ length (now answers))
+        × Standing (mesh .points) (now corrections) × (3 * pointCapacity (tablesIn points corners neighbours) ≤ length (now corrections))
+        × Scratch (mesh .points) (now state) (now list) (now faces) (now denied) (now exposed) (now ranks) × (length (now slots) ≡ 4096) ⌝ }
+    ensures { λ r. ⌜ AttemptKeeps asked (now (marks .entry)) mesh (tablesBefore points corners neighbours) (now (corrections .entry)) work q (answersOf handed (now (answers .entry)))
+        r (tablesAfter points corners neighbours) (now (corrections .exit))
+        × (r .refusal ≡ 0 → Scratch (mesh .points + 1) (now (state .exit)) (now (list .exit)) (now (faces .exit)) (now (denied .exit)) (now (exposed .exit)) (now (ranks .exit))) ⌝ }
+{
+    let node = Node {
+        position: q,
+        points: mesh.points as usize,
+        cells: mesh.cells as usize,
+        used: mesh.used as usize,
+        work: work,
+        handed: handed,
+    };
+    let found = find(
+        mesh,
+        points,
+        corners,
+        neighbours,
+        answers,
+        node,
+        state,
+        list,
+        faces,
+        denied,
+        exposed,
+        ranks,
+    );
+    let refusal = found.refusal;
+    if refusal != 0 {
+        return Attempt {
+            refusal: refusal,
+            inserted: Inserted::Refused(refusal),
+        };
+    }
+    if !marks_allow(asked, node.used, state, marks) {
+        return Attempt {
+            refusal: 14,
+            inserted: Inserted::Refused(14),
+        };
+    }
+    let correction = correction_in(points, corners, corrections, found.extent.holder, q);
+    let inserted = insert_found(
+        mesh,
+        points,
+        corners,
+        neighbours,
+        node,
+        found,
+        state,
+        list,
+        faces,
+        ranks,
+        slots,
+    );
+    put_correction(corrections, node.points, correction);
+    Attempt {
+        refusal: 0,
+        inserted: inserted,
+    }
+}
+
+// The same over any table, with what it takes for one node alone.
+pub fn insert_node(
+    mesh: Mesh,
+    points: &mut [u32],
+    corners: &mut [u16],
+    neighbours: &mut [u16],
+    corrections: &mut [i32],
+    work: usize,
+    answers: &[u8],
+    handed: bool,
+    marks: &[u8],
+    asked: bool,
+    q: Position,
+) -> Attempt
+    requires { ⌜ (isMesh mesh (tablesIn points corners neighbours) work ≡ true) × (handed ≡ true → mesh .used ≤ length (now answers))
+        × (3 * pointCapacity (tablesIn points corners neighbours) ≤ length (now corrections)) ⌝ }
+    ensures { λ r. ⌜ AttemptKeeps asked (now (marks .entry)) mesh (tablesBefore points corners neighbours) (now (corrections .entry)) work q (answersOf handed (now (answers .entry)))
+        r (tablesAfter points corners neighbours) (now (corrections .exit)) ⌝ }
+{
+    if out_of_range(corrections, mesh.points as usize) {
+        let early = early_refusal(mesh, points, q);
+        return Attempt {
+            refusal: early,
+            inserted: Inserted::Refused(early),
+        };
+    }
+    let mut state = [0u8; 4096];
+    let mut list = [0u16; 4096];
+    let mut faces = [0u8; 4096];
+    let mut denied = [0u16; 4096];
+    let mut exposed = [0u8; 1024];
+    let mut ranks = [0u16; 4096];
+    let mut slots = [0u16; 4096];
+    attempt_node(
+        mesh,
+        points,
+        corners,
+        neighbours,
+        corrections,
+        work,
+        answers,
+        handed,
+        marks,
+        asked,
+        q,
+        &mut state,
+        &mut list,
+        &mut faces,
+        &mut denied,
+        &mut exposed,
+        &mut ranks,
+        &mut slots,
+    )
+}

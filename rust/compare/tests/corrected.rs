@@ -1,0 +1,209 @@
+//! What is proved of corrections, looked at on each build by itself: a position has the same one from every cell that holds it,
+//! between those of the corners, and a point its own; an insertion moves it nowhere at its node and at no point; a setting is
+//! read back.
+
+mod common;
+
+use common::{looked, right_builds, Counts};
+use compare::call::Call;
+use compare::guarded::GuardedTables;
+use compare::nodes::{self, Spread};
+use compare::{corrections, Builder};
+use plain::corrections::Correction;
+use plain::loaded::Loaded;
+use plain::random::Random;
+use plain::{Mesh, Owned, Position, RightRules};
+
+/// The mesh that a build makes.
+struct Bed<'a> {
+    build: &'a dyn Builder,
+    sides: Position,
+    spread: Spread,
+    mesh: Mesh,
+    tables: Owned,
+}
+
+impl Bed<'_> {
+    /// In tables that another mesh has left.
+    fn started<'a>(build: &'a dyn Builder, random: &mut Random) -> Bed<'a> {
+        let sides = nodes::sides(random);
+        let mut tables = Owned::with_room(30, 200);
+        tables.corrections.fill(random.pick(&[0, 7, 1_001]));
+        let mesh = build.start(sides, &mut tables.lend()).mesh;
+        Bed {
+            build,
+            sides,
+            spread: nodes::spread(random),
+            mesh,
+            tables,
+        }
+    }
+
+    fn loaded(&self) -> Loaded<'static> {
+        Loaded::load(&RightRules, self.mesh, &self.tables.clone().lend())
+    }
+
+    fn read(&self, p: Position) -> Result<Correction, u8> {
+        let mut tables = self.tables.clone();
+        let read = self.build.correction(self.mesh, &mut tables.lend(), p);
+        match read.refusal {
+            0 => Ok([read.x, read.y, read.z]),
+            refusal => Err(refusal),
+        }
+    }
+
+    fn of_point(&self, point: usize) -> Correction {
+        self.tables.corrections.as_chunks().0[point]
+    }
+
+    fn make(&mut self, call: &Call) -> u8 {
+        let left = call.make(self.build, self.mesh, &GuardedTables::new(&self.tables));
+        self.tables = left.tables.owned();
+        self.mesh = left.answer.mesh().unwrap_or(self.mesh);
+        left.answer.outcome()
+    }
+}
+
+/// A start in these tables gives the box corners 0, and leaves the rest.
+fn starts_at_0(bed: &mut Bed, _: &mut Random) -> bool {
+    let (mut tables, before) = (bed.tables.clone(), &bed.tables.corrections);
+    bed.build.start(bed.sides, &mut tables.lend());
+    tables.corrections[..24] == [0; 24] && tables.corrections[24..] == before[24..]
+}
+
+/// It is within a half of the sum over the volume of any cell that holds the position, and away from zero where it is a half.
+fn is_that_of_every_cell(bed: &mut Bed, random: &mut Random) -> bool {
+    let mesh = bed.loaded();
+    let corners = mesh.positions(random.pick(&mesh.cells()));
+    let p = nodes::in_cell(random, corners);
+    let Ok(read) = bed.read(p) else {
+        return false;
+    };
+    mesh.holding(p).into_iter().all(|c| {
+        let own = mesh.entries[c]
+            .corners
+            .map(|point| bed.of_point(point.into()));
+        (0..3).all(|axis| {
+            let term = |i: usize| mesh.side(c, i, p) * i128::from(own[i][axis]);
+            let (sum, volume) = ((0..4).map(term).sum::<i128>(), mesh.volume(c));
+            let whole = i128::from(read[axis]) * volume;
+            let off = 2 * (whole - sum).abs();
+            let least = own.iter().map(|numbers| numbers[axis]).min();
+            let greatest = own.iter().map(|numbers| numbers[axis]).max();
+            (off < volume || off == volume && whole.abs() > sum.abs())
+                && least <= Some(read[axis])
+                && Some(read[axis]) <= greatest
+        })
+    })
+}
+
+fn is_a_point_s_own(bed: &mut Bed, _: &mut Random) -> bool {
+    let points = bed.loaded().points.into_iter().enumerate();
+    let mut points = points.map(|(point, p)| bed.read(p) == Ok(bed.of_point(point)));
+    points.all(|is_own| is_own)
+}
+
+/// What was set is read, and nothing else changes.
+fn is_set(bed: &mut Bed, random: &mut Random) -> bool {
+    let point = random.index(bed.mesh.points as usize);
+    let numbers = [0; 3].map(|_| random.below(2_001) as i32 - 1_000);
+    let mut expected = bed.tables.clone();
+    expected.corrections.as_chunks_mut().0[point] = numbers;
+    expected.work.fill(0);
+    bed.make(&Call::SetCorrection(point as u32, numbers)) == 0 && bed.tables == expected
+}
+
+/// A refused setting leaves all.
+fn is_not_set(bed: &mut Bed, random: &mut Random) -> bool {
+    let before = bed.tables.clone();
+    let (points, wrong) = (bed.mesh.points, random.pick(&[1_001, -1_001, i32::MIN]));
+    let refused = [
+        bed.make(&Call::SetCorrection(points, [wrong; 3])),
+        bed.make(&Call::SetCorrection(0, [0, wrong, 0])),
+    ];
+    bed.tables.work.clone_from(&before.work);
+    refused == [13, 12] && bed.tables == before
+}
+
+/// Of any kind: the node has what its position had, and every other point what it had.
+fn moves_nothing(bed: &mut Bed, random: &mut Random) -> bool {
+    let p = nodes::inside(random, bed.sides, bed.spread);
+    let call = match random.below(4) {
+        0 => Call::Insert(p),
+        1 => Call::InsertAnswers(nodes::answers(random, bed.mesh), p),
+        2 => looked(bed.build, bed.mesh, &bed.tables, p),
+        _ => Call::InsertList(p.to_vec()),
+    };
+    let (before, read) = (bed.tables.corrections.clone(), bed.read(p));
+    let mut expected = before.clone();
+    let point = bed.mesh.points as usize;
+    if bed.make(&call) == 0 {
+        let node = expected.as_chunks_mut().0.get_mut(point);
+        let (Some(node), Ok(read)) = (node, read) else {
+            return false;
+        };
+        *node = read;
+    }
+    bed.tables.corrections == expected && bed.read(p) == read
+}
+
+type Law = fn(&mut Bed, &mut Random) -> bool;
+
+const LAWS: [(&str, Law); 6] = [
+    ("starts at 0", starts_at_0),
+    ("is set", is_set),
+    ("is not set", is_not_set),
+    ("is that of every cell", is_that_of_every_cell),
+    ("is a point's own", is_a_point_s_own),
+    ("moves nothing", moves_nothing),
+];
+
+/// Many meshes as they grow, or the law that is broken first.
+fn many_meshes(build: &dyn Builder) -> Result<Counts, &'static str> {
+    let mut counts = Counts::default();
+    for seed in 0..150 {
+        let mut random = Random::new(seed);
+        let mut bed = Bed::started(build, &mut random);
+        for round in 0..10 {
+            for (law, holds) in LAWS {
+                if !holds(&mut bed, &mut random) {
+                    return Err(law);
+                }
+            }
+            corrections::scatter(&mut random, bed.mesh, &mut bed.tables);
+            counts.add([
+                ("a mesh of 8 points", bed.mesh.points == 8),
+                ("a mesh of more than 12", bed.mesh.points > 12),
+                ("a node went in", bed.mesh.points > 8 && round == 0),
+            ]);
+        }
+    }
+    Ok(counts)
+}
+
+#[test]
+fn they_hold_of_each_right_build() {
+    for build in right_builds() {
+        let counts = many_meshes(build.as_ref()).expect("every law");
+        counts.all_occur(3);
+    }
+}
+
+#[test]
+fn which_law_each_wrong_build_breaks() {
+    for (name, law) in [
+        ("box-corners-not-cleared", "starts at 0"),
+        ("range-past-the-points", "is set"),
+        ("range-before-the-point", "is not set"),
+        ("halves-toward-zero", "is that of every cell"),
+        ("halves-up", "is that of every cell"),
+        ("halves-to-even", "is that of every cell"),
+        // Before the first node all cells have one volume.
+        ("volume-of-another-cell", "moves nothing"),
+        ("node-starts-at-0", "moves nothing"),
+        ("node-starts-as-it-stands", "moves nothing"),
+    ] {
+        let build = compare::named(name).expect("a build");
+        assert_eq!(many_meshes(build.as_ref()).err(), Some(law), "{name}");
+    }
+}
