@@ -116,25 +116,25 @@ module _ (m : Mesh) (t : Tables) (cs : List ℤ) (ws : List ℕ) {ws′ : List �
 
 module _ (m : Mesh) (t : Tables) (cs : List ℤ) (ws : List ℕ) {ws′ : List ℕ} (c : ws′ ≡ cleared ws) (p : Position) where
   module _ (a : Answers) {k : ℕ} (e : k ≡ withLength t cs (meshRefusal m t (length ws′) (fewerBytes a (m .used)))) where
-    f : k ≡ withLength t cs (meshRefusal m t (length ws) (fewerBytes a (m .used)))
-    f = tested m t cs ws c (fewerBytes a (m .used)) e
+    own-tested : k ≡ withLength t cs (meshRefusal m t (length ws) (fewerBytes a (m .used)))
+    own-tested = tested m t cs ws c (fewerBytes a (m .used)) e
 
     pub insert-refused : k ≢ 0 → Leaves (insertWith m t cs (length ws) p a) ws (Refused k) t cs ws′
     unfolding insertWith
     insert-refused d =
         left m t cs ws c (fewerBytes a (m .used)) e p a _
-        (first-tests m t cs (length ws) (fewerBytes a (m .used)) f d (λ j q n. first-three m t (length ws) p a q n)) d
+        (first-tests m t cs (length ws) (fewerBytes a (m .used)) own-tested d (λ j q n. first-three m t (length ws) p a q n)) d
 
     pub insert-kept : {marks : List ℕ} → k ≡ 0 → {g : Attempt} {t′ : Tables} {cs′ : List ℤ} → AttemptKeeps false marks m t cs (length ws′) p a g t′ cs′ →
         Leaves (insertWith m t cs (length ws) p a) ws (g .inserted) t′ cs′ ws′
     unfolding insertWith
     insert-kept {marks} z L =
         attempted m t cs ws c (fewerBytes a (m .used)) e false marks p a z
-        (left-to-node m t (length ws) p a (tests-pass m t cs (length ws) (fewerBytes a (m .used)) f z .1)) L
+        (left-to-node m t (length ws) p a (tests-pass m t cs (length ws) (fewerBytes a (m .used)) own-tested z .1)) L
 
   module _ (marks : List ℕ) {k : ℕ} (e : k ≡ withLength t cs (meshRefusal m t (length ws′) false)) where
-    g : k ≡ withLength t cs (meshRefusal m t (length ws) false)
-    g = tested m t cs ws c false e
+    sphere-tested : k ≡ withLength t cs (meshRefusal m t (length ws) false)
+    sphere-tested = tested m t cs ws c false e
 
     -- tests 1 to 3 refuse it
     three : (j : ℕ) → meshRefusal m t (length ws) false ≡ j → j ≢ 0 → insertRefusal m t (length ws) p sphere ≡ j
@@ -144,11 +144,11 @@ module _ (m : Mesh) (t : Tables) (cs : List ℤ) (ws : List ℕ) {ws′ : List �
     -- or let it pass
     onward : k ≡ 0 → insertRefusal m t (length ws) p sphere ≡ nodeRefusal m t (length ws) p sphere
     unfolding fewerBytes
-    onward z = left-to-node m t (length ws) p sphere (tests-pass m t cs (length ws) false g z .1)
+    onward z = left-to-node m t (length ws) p sphere (tests-pass m t cs (length ws) false sphere-tested z .1)
 
     pub marked-refused : k ≢ 0 → Leaves (markedWith m t cs (length ws) p marks) ws (Refused k) t cs ws′
     unfolding markedWith
-    marked-refused d = left m t cs ws c false e p sphere _ (first-tests m t cs (length ws) false g d (λ j q n. marked-refuses m t p sphere marks (three j q n) n)) d
+    marked-refused d = left m t cs ws c false e p sphere _ (first-tests m t cs (length ws) false sphere-tested d (λ j q n. marked-refuses m t p sphere marks (three j q n) n)) d
 
     pub marked-kept : k ≡ 0 → {h : Attempt} {t′ : Tables} {cs′ : List ℤ} → AttemptKeeps true marks m t cs (length ws′) p sphere h t′ cs′ →
         Leaves (markedWith m t cs (length ws) p marks) ws (h .inserted) t′ cs′ ws′
@@ -158,7 +158,7 @@ module _ (m : Mesh) (t : Tables) (cs : List ℤ) (ws : List ℕ) {ws′ : List �
     pub look-refused : k ≢ 0 → LookLeft (lookWith m t cs (length ws) p marks) ws (LookRefused k) t ws′ marks
     unfolding lookWith lookUnless
     look-refused d =
-        let q = first-tests m t cs (length ws) false g d (λ j q n. look-refuses m marks (three j q n) n) in
+        let q = first-tests m t cs (length ws) false sphere-tested d (λ j q n. look-refuses m marks (three j q n) n) in
         record { answer = rw (q, ne-eqb k 0 d); tables = rw (q, ne-eqb k 0 d); marks-left = rw (q, ne-eqb k 0 d); work = c }
 
     pub look-kept : k ≡ 0 → {r : Looked} {t′ : Tables} {marks′ : List ℕ} → NodeLookedWith m t cs (length ws′) p marks r t′ marks′ →
@@ -172,43 +172,43 @@ module _ (m : Mesh) (t : Tables) (cs : List ℤ) (ws : List ℕ) {ws′ : List �
 -- ---- a look after tests 1 to 3
 
 module _ (m : Mesh) (t : Tables) (cs : List ℤ) (w : ℕ) (p : Position) (marks : List ℕ) where
-  abbrev sum : ℕ
-  sum = lookRefusal (nodeRefusal m t w p sphere) m marks
+  abbrev look-refusal : ℕ
+  look-refusal = lookRefusal (nodeRefusal m t w p sphere) m marks
 
   pub looked-in-range : {r : Looked} {t′ : Tables} {marks′ : List ℕ} → outOfRange (m .points) cs ≡ false → NodeLooked m t w p marks r t′ marks′ →
       NodeLookedWith m t cs w p marks r t′ marks′
   looked-in-range e L =
-      let q : withRange (m .points) cs sum ≡ sum = range-in (m .points) cs e in
+      let q : withRange (m .points) cs look-refusal ≡ look-refusal = range-in (m .points) cs e in
       record { answer = rw q (L .answer); tables = rw q (L .tables); marks-left = rw q (L .marks-left) }
 
   pub looked-wrong : {e : ℕ} → outOfRange (m .points) cs ≡ true → e ≡ earlyRefusal m t p → NodeLookedWith m t cs w p marks (LookRefused e) t marks
   unfolding lookUnless
   looked-wrong {e} wrong f =
-      let q : withRange (m .points) cs sum ≡ e = early-is m t w p sphere cs wrong (λ j q n. look-refuses m marks q n) none ∙ sym f in
+      let q : withRange (m .points) cs look-refusal ≡ e = early-is m t w p sphere cs wrong (λ j q n. look-refuses m marks q n) none ∙ sym f in
       let n = ne-eqb e 0 (λ z. early-not-zero m t w p sphere cs wrong (sym f ∙ z)) in
       record { answer = rw (q, n); tables = rw (q, n); marks-left = rw (q, n) }
     where
-      none : nodeRefusal m t w p sphere ≡ 0 → (sum ≡ 0) ⊎ (5 < sum)
+      none : nodeRefusal m t w p sphere ≡ 0 → (look-refusal ≡ 0) ⊎ (5 < look-refusal)
       none z = go (split (ltb (length marks) (m .used)))
         where
-          go : (ltb (length marks) (m .used) ≡ true) ⊎ (ltb (length marks) (m .used) ≡ false) → (sum ≡ 0) ⊎ (5 < sum)
-          go (inl b) = let e : sum ≡ 10 = look-passes m marks z ∙ rw b in inr (omega (arith, e))
+          go : (ltb (length marks) (m .used) ≡ true) ⊎ (ltb (length marks) (m .used) ≡ false) → (look-refusal ≡ 0) ⊎ (5 < look-refusal)
+          go (inl b) = let e : look-refusal ≡ 10 = look-passes m marks z ∙ rw b in inr (omega (arith, e))
           go (inr b) = inl (look-passes m marks z ∙ rw b)
 
 -- ---- a list
 
 module _ (m : Mesh) (t : Tables) (cs : List ℤ) (ws : List ℕ) {ws′ : List ℕ} (c : ws′ ≡ cleared ws) (ns : List ℕ) {k : ℕ}
     (e : k ≡ withLength t cs (meshRefusal m t (length ws′) false)) where
-  h : k ≡ withLength t cs (meshRefusal m t (length ws) false)
-  h = tested m t cs ws c false e
+  list-tested : k ≡ withLength t cs (meshRefusal m t (length ws) false)
+  list-tested = tested m t cs ws c false e
 
   pub list-refused : k ≢ 0 → Leaves (listWith m t cs (length ws) ns) ws (AllRefused k) t cs ws′
   unfolding listWith
-  list-refused d = record { answer = rw (sym h, ne-eqb k 0 d); tables = rw (sym h, ne-eqb k 0 d); corrections = rw (sym h, ne-eqb k 0 d); work = c }
+  list-refused d = record { answer = rw (sym list-tested, ne-eqb k 0 d); tables = rw (sym list-tested, ne-eqb k 0 d); corrections = rw (sym list-tested, ne-eqb k 0 d); work = c }
 
   pub list-kept : k ≡ 0 → {r : Listed} {t′ : Tables} {cs′ : List ℤ} → NodesKeep m t cs (length ws′) ns r t′ cs′ → Leaves (listWith m t cs (length ws) ns) ws r t′ cs′ ws′
   unfolding listWith
   list-kept z {r} {t′} {cs′} L =
       let N = subst (λ w. NodesKeep m t cs w ns r t′ cs′) (same-work ws c) L in
-      let q = sym h ∙ z in
+      let q = sym list-tested ∙ z in
       record { answer = rw q (N .answer); tables = rw q (N .tables); corrections = rw q (N .corrections); work = c }

@@ -10,21 +10,18 @@ ghost use Rattle.cavity.specs.Answers.{answersOf};
 ghost use Rattle.insertion.specs.Inner.{Scratch};
 ghost use Rattle.corrections.specs.Inner.{Standing, AttemptKeeps};
 use cavity::Node;
+use corrections_star::insert_numbered;
 use corrections_tests::early_refusal;
-use corrections_value::correction_in;
 use corrections_value::out_of_range;
-use corrections_value::put_correction;
 use geometry::Position;
 use insertion::Attempt;
 use insertion::Inserted;
 use insertion_find::find;
 use insertion_marks::marks_allow;
-use insertion_star::insert_found;
 use mesh::Mesh;
 
 // A node by the sphere test or by answers handed in, over a table in range; where marks are asked for, only if these are the marks of a
-// look. The new point's numbers are worked out between the two stages, from a cell of the base. What is lent from `state` on serves node
-// after node: after an accepted one it is as it has to be for the next.
+// look. What is lent from `state` on serves node after node: after an accepted one it is as it has to be for the next.
 pub fn attempt_node(
     mesh: Mesh,
     points: &mut [u32],
@@ -87,12 +84,12 @@ pub fn attempt_node(
             inserted: Inserted::Refused(14),
         };
     }
-    let correction = correction_in(points, corners, corrections, found.extent.holder, q);
-    let inserted = insert_found(
+    let inserted = insert_numbered(
         mesh,
         points,
         corners,
         neighbours,
+        corrections,
         node,
         found,
         state,
@@ -101,7 +98,6 @@ pub fn attempt_node(
         ranks,
         slots,
     );
-    put_correction(corrections, node.points, correction);
     Attempt {
         refusal: 0,
         inserted: inserted,

@@ -207,7 +207,7 @@ pub extern "C" fn gantry_look(
         r (tablesAfter points corners neighbours) (now (work .exit)) (now (marks .exit)) ⌝ }
 {
     let q = Position { x: x, y: y, z: z };
-    looked(look(
+    let answer = look(
         mesh,
         points,
         corners,
@@ -216,7 +216,8 @@ pub extern "C" fn gantry_look(
         corrections,
         marks,
         q,
-    ))
+    );
+    looked(answer)
 }
 
 #[no_mangle]

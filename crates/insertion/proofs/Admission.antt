@@ -31,7 +31,7 @@ use Rattle.cavity.specs.declared.Extent.{Extent}
 use Rattle.cavity.specs.Answers.{Answers, saysYes, answersOf}
 use Rattle.cavity.specs.Cavity.{inSet, visible, cavityOf, cavitySize}
 use Rattle.cavity.specs.Inner.Star.{StarShaped}
-use Rattle.cavity.specs.Inner.{Answerable, inside, setOf, Enumerated, CavityFound}
+use Rattle.cavity.specs.Inner.{Answerable, setOf, Enumerated, CavityFound}
 use Rattle.cavity.specs.Inner.Growth.{Unstamped}
 use Rattle.cavity.proofs.Correction.{base-at, corrected-star-shaped}
 use Rattle.star.specs.Star.{madeCount}
@@ -210,9 +210,6 @@ module _ {m : Mesh} {t : Tables} {bytes : List ℕ} {d : Node} (A : Admitted m t
         where
           free : (k : ℕ) → k < m .points → p ≢ point t k
           free k l q = clash (any-intro (m .points) (λ k. samePosition (point t k) p) k l (same-position-yes (point t k) p (sym q))) (A .place .free)
-
-      pub after≤ : r .after ≤ n
-      after≤ = omega (arith, H .list some .counted, count-le n (inside st))
 
       pub before≤ : r .before ≤ n
       unfolding cavitySize

@@ -229,10 +229,6 @@ module _ (m : Mesh) (t : Tables) (w : ℕ) (p : Position) (a : Answers) where
   unfolding insertRefusal
   first-three e d = first-refuses (nodeRefusal m t w p a) e d
 
-  pub call-refused : {k : ℕ} → firstThree ≡ k → k ≢ 0 → insertCall m t w p a ≡ record { answer = Refused k; tables = t }
-  unfolding insertCall
-  call-refused e d = unless-refused m t p a (first-three e d) d
-
   -- and one that they let pass
   pub left-to-node : firstThree ≡ 0 → insertRefusal m t w p a ≡ nodeRefusal m t w p a
   unfolding insertRefusal

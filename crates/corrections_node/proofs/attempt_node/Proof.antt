@@ -2,20 +2,19 @@ use mathlib.Core.Path.{refl, _∙_}
 use native.Mathlib.Omega.{arith}
 use borrow.Author.Tests.{not-true, not-false}
 use Rattle.insertion.proofs.Acceptance.{states-long, scratch-after, accepted-leaves, marks-refused, refused-attempt}
-use Rattle.corrections.proofs.Attempt.{readable, entries<, written}
 use Rattle.corrections.proofs.Leaving.{kept}
 use borrow.Author.Needs.{needs}
 use Rattle.corrections_node.proofs.attempt_node.Statement.{statement}
 use Rattle.corrections_node.proofs.attempt_node.Tie as tie
+
+cast-t23 : tie.Need-cast-t23
+cast-t23 c = search needs
 
 cast-t24 : tie.Need-cast-t24
 cast-t24 c = search needs
 
 cast-t25 : tie.Need-cast-t25
 cast-t25 c = search needs
-
-cast-t26 : tie.Need-cast-t26
-cast-t26 c = search needs
 
 find-requires : tie.Need-find-requires
 find-requires c κs =
@@ -89,14 +88,10 @@ returns-2 c =
     let S = c .before .before .before .before .before .before .before .before .before .before .before .before .before .before .before .before .find .ensures .starable (c .before .before .before .if1 .left) in
     (kept _ _ _ _ _ _ _ _ (c .before .before .before .before .before .before .before .before .before .before .before .before .before .before .before .before .before .before .before .before .before .before .before .before .before .before .before .before .before .before .before .before .before .before .before .before .before .before .before .before .before .pre .2 .range) (marks-refused S _ _ (c .before .marks-allow .ensures) (not-true _ (c .if2 .taken))) (λ z. absurd (omega arith)) (λ n. refl), λ z. absurd (omega arith))
 
-correction-in-requires : tie.Need-correction-in-requires
-correction-in-requires c κs = readable (c .before .before .before .before .before .before .before .before .before .before .before .before .before .before .before .before .before .before .before .find .ensures .starable (c .before .before .before .before .before .before .if1 .left)) _ (c .before .before .before .before .before .before .before .before .before .before .before .before .before .before .before .before .before .before .before .before .before .before .before .before .before .before .before .before .before .before .before .before .before .before .before .before .before .before .before .before .before .before .before .before .pre .2)
-
-insert-found-requires : tie.Need-insert-found-requires
-insert-found-requires c κs = (record { bytes = _; starable = c .before .before .before .before .before .before .before .before .before .before .before .before .before .before .before .before .before .before .before .before .before .before .before .before .before .before .before .before .find .ensures .starable (c .before .before .before .before .before .before .before .before .before .before .before .before .before .before .before .if1 .left) }, c .before .before .before .before .before .before .before .before .before .before .before .before .before .before .before .before .before .before .before .before .before .before .before .before .before .before .before .before .before .before .before .before .before .before .before .before .before .before .before .before .before .before .before .before .before .before .before .before .before .before .before .before .before .pre .5)
-
-put-correction-requires : tie.Need-put-correction-requires
-put-correction-requires c κs = entries< (c .before .before .before .before .before .before .before .before .before .before .before .before .before .before .before .before .before .before .before .before .before .before .before .before .before .before .before .before .before .before .before .before .before .before .before .before .before .before .before .before .find .ensures .starable (c .before .before .before .before .before .before .before .before .before .before .before .before .before .before .before .before .before .before .before .before .before .before .before .before .before .before .before .if1 .left)) (c .before .before .before .before .before .before .before .before .before .before .before .before .before .before .before .before .before .before .before .before .before .before .before .before .before .before .before .before .before .before .before .before .before .before .before .before .before .before .before .before .before .before .before .before .before .before .before .before .before .before .before .before .before .before .before .before .before .before .before .before .before .before .before .before .before .pre .3)
+insert-numbered-requires : tie.Need-insert-numbered-requires
+insert-numbered-requires c κs =
+    let p = c .before .before .before .before .before .before .before .before .before .before .before .before .before .before .before .before .before .before .before .before .before .before .before .before .before .before .before .before .before .before .before .before .before .before .before .before .before .before .before .before .before .before .before .before .before .before .before .before .before .before .pre in
+    (record { bytes = _; starable = c .before .before .before .before .before .before .before .before .before .before .before .before .before .before .before .before .before .before .before .before .before .before .before .before .before .find .ensures .starable (c .before .before .before .before .before .before .before .before .before .before .before .before .if1 .left) }, p .2, p .3, p .5)
 
 same-length-19 : tie.Need-same-length-19
 same-length-19 c = search needs
@@ -111,43 +106,44 @@ same-length-22 : tie.Need-same-length-22
 same-length-22 c = search needs
 
 same-length-23 : tie.Need-same-length-23
-same-length-23 c = c .before .before .before .before .before .before .before .before .before .before .before .before .before .insert-found .kept .1 .1 .1 .1 .1 .1 .0 ∙ c .before .before .before .before .before .before .before .before .before .before .before .before .before .before .before .before .before .before .before .before .before .before .before .before .before .before .before .before .before .before .before .before .before .before .before .before .before .before .before .before .before .before .find .kept .1 .1 .1 .1 .1 .1 .0
+same-length-23 c = search needs
 
 same-length-24 : tie.Need-same-length-24
-same-length-24 c = c .before .before .before .before .before .before .before .before .before .before .before .before .before .before .before .before .before .before .before .before .before .before .before .before .before .before .before .before .before .before .before .before .before .before .before .before .before .before .before .before .before .before .find .kept .1 .1 .1 .1 .1 .1 .1 .0
+same-length-24 c = search needs
 
 same-length-25 : tie.Need-same-length-25
-same-length-25 c = c .before .before .before .before .before .before .before .before .before .before .before .before .before .before .before .before .before .before .before .before .before .before .before .before .before .before .before .before .before .before .before .before .before .before .before .before .before .before .before .before .before .before .find .kept .1 .1 .1 .1 .1 .1 .1 .1 .0
+same-length-25 c = search needs
 
 same-length-26 : tie.Need-same-length-26
-same-length-26 c = c .before .before .before .before .before .before .before .before .before .before .before .before .before .before .before .before .before .before .before .before .before .before .before .before .before .before .before .before .before .before .before .before .before .before .before .before .before .before .before .before .before .before .find .kept .1 .1 .1 .1 .1 .1 .1 .1 .1 .0
+same-length-26 c = search needs
 
 same-length-27 : tie.Need-same-length-27
-same-length-27 c = c .before .before .before .before .before .before .before .before .before .before .before .before .before .before .before .before .before .before .before .before .before .before .before .before .before .before .before .before .before .before .before .before .before .before .before .before .before .before .before .before .before .before .find .kept .1 .1 .1 .1 .1 .1 .1 .1 .1 .1 .0
+same-length-27 c = search needs
 
 same-length-28 : tie.Need-same-length-28
-same-length-28 c = c .before .before .before .before .before .before .before .before .before .before .before .before .before .before .before .before .before .before .before .before .before .before .before .before .before .before .before .before .before .before .before .before .before .before .before .before .before .before .before .before .before .before .find .kept .1 .1 .1 .1 .1 .1 .1 .1 .1 .1 .1 .0
+same-length-28 c = search needs
 
 same-length-29 : tie.Need-same-length-29
 same-length-29 c = search needs
 
 returns-3 : tie.Need-returns-3
 returns-3 c =
-    let T = c .before .before .before .before .before .before .before .before .before .before .before .before .before .before .before .before .before .before .before .before .before .before .before .before .before .before .before .before .before .before .before .before .before .before .before .before .before .before .before .before .before .before .find in
-    let p = c .before .before .before .before .before .before .before .before .before .before .before .before .before .before .before .before .before .before .before .before .before .before .before .before .before .before .before .before .before .before .before .before .before .before .before .before .before .before .before .before .before .before .before .before .before .before .before .before .before .before .before .before .before .before .before .before .before .before .before .before .before .before .before .before .before .before .before .pre in
-    let S = T .ensures .starable (c .before .before .before .before .before .before .before .before .before .before .before .before .before .before .before .before .before .before .before .before .before .before .before .before .before .before .before .before .before .if1 .left) in
-    let G = c .before .before .before .before .before .before .before .before .before .before .before .before .before .insert-found .ensures in (
-      kept _ _ _ _ _ _ _ _ (p .2 .range) (accepted-leaves S _ _ (c .before .before .before .before .before .before .before .before .before .before .before .before .before .before .before .before .before .before .before .before .before .before .before .before .before .before .before .marks-allow .ensures) (not-false _ (c .before .before .before .before .before .before .before .before .before .before .before .before .before .before .before .before .before .before .before .before .before .before .before .before .before .before .if2 .left)) (G .0 _ S)) (λ z. written S _ (c .before .before .before .before .before .before .before .before .before .before .before .before .before .before .before .before .before .before .before .before .before .before .correction-in .ensures) (c .before .put-correction .ensures)) (λ n. absurd (n refl)),
-      λ z. scratch-after S (G .1) (T .ensures .notes (c .before .before .before .before .before .before .before .before .before .before .before .before .before .before .before .before .before .before .before .before .before .before .before .before .before .before .before .before .before .if1 .left)) (T .kept .1 .1 .1 .1 .1 .1 .1 .1 .1 .1 .0 ∙ p .4 .exposed),
+    let T = c .before .before .before .before .before .before .before .before .before .before .before .before .before .before .before .before .before .before .before .before .before .before .before .before .before .before .before .before .before .before .before .before .before .before .before .before .before .find in
+    let p = c .before .before .before .before .before .before .before .before .before .before .before .before .before .before .before .before .before .before .before .before .before .before .before .before .before .before .before .before .before .before .before .before .before .before .before .before .before .before .before .before .before .before .before .before .before .before .before .before .before .before .before .before .before .before .before .before .before .before .before .before .before .before .pre in
+    let S = T .ensures .starable (c .before .before .before .before .before .before .before .before .before .before .before .before .before .before .before .before .before .before .before .before .before .before .before .before .if1 .left) in
+    let G = c .before .before .before .before .before .before .before .before .before .before .before .insert-numbered .ensures in
+    let N = G .0 _ S in (
+      kept _ _ _ _ _ _ _ _ (p .2 .range) (accepted-leaves S _ _ (c .before .before .before .before .before .before .before .before .before .before .before .before .before .before .before .before .before .before .before .before .before .before .marks-allow .ensures) (not-false _ (c .before .before .before .before .before .before .before .before .before .before .before .before .before .before .before .before .before .before .before .before .before .if2 .left)) (N .0)) (λ z. N .1) (λ n. absurd (n refl)),
+      λ z. scratch-after S (G .1) (T .ensures .notes (c .before .before .before .before .before .before .before .before .before .before .before .before .before .before .before .before .before .before .before .before .before .before .before .before .if1 .left)) (T .kept .1 .1 .1 .1 .1 .1 .1 .1 .1 .1 .0 ∙ p .4 .exposed),
     )
 
 pub attempt-node-spec : {M : Type 1} → statement M
 attempt-node-spec =
     tie.close
     (tie.spec
+    cast-t23
     cast-t24
     cast-t25
-    cast-t26
     find-requires
     same-length
     same-length-2
@@ -170,9 +166,7 @@ attempt-node-spec =
     same-length-17
     same-length-18
     returns-2
-    correction-in-requires
-    insert-found-requires
-    put-correction-requires
+    insert-numbered-requires
     same-length-19
     same-length-20
     same-length-21
