@@ -2,3 +2,4 @@ pub mod Plain
 pub mod Theorem
 pub mod Started
 pub mod Numbers
+pub mod Located
