@@ -4,41 +4,24 @@
 
 mod common;
 
-use common::{looked, right_builds, Counts};
+use common::{each_breaks, each_holds, looked, Bed, Counts};
 use compare::call::Call;
 use compare::guarded::GuardedTables;
-use compare::nodes::{self, Spread};
+use compare::nodes;
 use compare::{corrections, Builder};
 use plain::corrections::Correction;
 use plain::loaded::Loaded;
 use plain::random::Random;
-use plain::{Mesh, Owned, Position, RightRules};
+use plain::{Owned, Position, RightRules};
 
-/// The mesh that a build makes.
-struct Bed<'a> {
-    build: &'a dyn Builder,
-    sides: Position,
-    spread: Spread,
-    mesh: Mesh,
-    tables: Owned,
+/// Tables that another mesh has left.
+fn used_room(random: &mut Random) -> Owned {
+    let mut tables = Owned::with_room(30, 200);
+    tables.corrections.fill(random.pick(&[0, 7, 1_001]));
+    tables
 }
 
 impl Bed<'_> {
-    /// In tables that another mesh has left.
-    fn started<'a>(build: &'a dyn Builder, random: &mut Random) -> Bed<'a> {
-        let sides = nodes::sides(random);
-        let mut tables = Owned::with_room(30, 200);
-        tables.corrections.fill(random.pick(&[0, 7, 1_001]));
-        let mesh = build.start(sides, &mut tables.lend()).mesh;
-        Bed {
-            build,
-            sides,
-            spread: nodes::spread(random),
-            mesh,
-            tables,
-        }
-    }
-
     fn loaded(&self) -> Loaded<'static> {
         Loaded::load(&RightRules, self.mesh, &self.tables.clone().lend())
     }
@@ -163,7 +146,7 @@ fn many_meshes(build: &dyn Builder) -> Result<Counts, &'static str> {
     let mut counts = Counts::default();
     for seed in 0..150 {
         let mut random = Random::new(seed);
-        let mut bed = Bed::started(build, &mut random);
+        let mut bed = Bed::started(build, &mut random, used_room);
         for round in 0..10 {
             for (law, holds) in LAWS {
                 if !holds(&mut bed, &mut random) {
@@ -183,15 +166,12 @@ fn many_meshes(build: &dyn Builder) -> Result<Counts, &'static str> {
 
 #[test]
 fn they_hold_of_each_right_build() {
-    for build in right_builds() {
-        let counts = many_meshes(build.as_ref()).expect("every law");
-        counts.all_occur(3);
-    }
+    each_holds(3, many_meshes);
 }
 
 #[test]
 fn which_law_each_wrong_build_breaks() {
-    for (name, law) in [
+    let broken = [
         ("box-corners-not-cleared", "starts at 0"),
         ("range-past-the-points", "is set"),
         ("range-before-the-point", "is not set"),
@@ -202,8 +182,6 @@ fn which_law_each_wrong_build_breaks() {
         ("volume-of-another-cell", "moves nothing"),
         ("node-starts-at-0", "moves nothing"),
         ("node-starts-as-it-stands", "moves nothing"),
-    ] {
-        let build = compare::named(name).expect("a build");
-        assert_eq!(many_meshes(build.as_ref()).err(), Some(law), "{name}");
-    }
+    ];
+    each_breaks(&broken, many_meshes);
 }

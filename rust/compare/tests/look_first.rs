@@ -5,40 +5,22 @@ mod common;
 
 use std::collections::BTreeSet;
 
-use common::{right_builds, Counts};
-use compare::nodes::{self, Spread};
+use common::{each_breaks, each_holds, Bed, Counts};
+use compare::nodes;
 use compare::Builder;
 use plain::loaded::Loaded;
 use plain::random::Random;
 use plain::{Answers, Inserted, Looked, Mesh, Owned, Position, RightRules, Rules};
 
-/// The mesh that a build makes.
-struct Bed<'a> {
-    build: &'a dyn Builder,
-    sides: Position,
-    spread: Spread,
-    mesh: Mesh,
-    tables: Owned,
-}
-
 /// An insertion's answer, and what it left.
 type Insertion = (Inserted, Owned);
 
-impl Bed<'_> {
-    /// In some of them points run out, in others cells.
-    fn started<'a>(build: &'a dyn Builder, random: &mut Random) -> Bed<'a> {
-        let sides = nodes::sides(random);
-        let mut tables = Owned::with_room(20, random.pick(&[40, 90]));
-        let mesh = build.start(sides, &mut tables.lend()).mesh;
-        Bed {
-            build,
-            sides,
-            spread: nodes::spread(random),
-            mesh,
-            tables,
-        }
-    }
+/// In some of them points run out, in others cells.
+fn small_room(random: &mut Random) -> Owned {
+    Owned::with_room(20, random.pick(&[40, 90]))
+}
 
+impl Bed<'_> {
     /// Now and then one that is refused.
     fn node(&self, random: &mut Random) -> Position {
         let points = &self.tables.points[..3 * self.mesh.points as usize];
@@ -228,7 +210,7 @@ fn many_looks(build: &dyn Builder) -> Result<Counts, &'static str> {
     let mut counts = Counts::default();
     for seed in 0..150 {
         let mut random = Random::new(seed);
-        let mut bed = Bed::started(build, &mut random);
+        let mut bed = Bed::started(build, &mut random, small_room);
         for _ in 0..16 {
             look_first(&mut bed, &mut random, &mut counts)?;
         }
@@ -238,15 +220,12 @@ fn many_looks(build: &dyn Builder) -> Result<Counts, &'static str> {
 
 #[test]
 fn they_hold_of_each_right_build() {
-    for build in right_builds() {
-        let counts = many_looks(build.as_ref()).expect("every law");
-        counts.all_occur(10);
-    }
+    each_holds(10, many_looks);
 }
 
 #[test]
 fn which_law_each_wrong_build_breaks() {
-    for (name, law) in [
+    let broken = [
         // The insertion goes by the same marks, so that look and insertion agree.
         ("marks-before-correction", "marks what is replaced"),
         ("marks-of-the-base", "marks what is replaced"),
@@ -256,8 +235,6 @@ fn which_law_each_wrong_build_breaks() {
         ("marks-by-the-count", "marks what is replaced"),
         ("freed-unmarked", "goes in plainly"),
         ("freed-mark-ignored", "refuses other marks"),
-    ] {
-        let build = compare::named(name).expect("a build");
-        assert_eq!(many_looks(build.as_ref()).err(), Some(law), "{name}");
-    }
+    ];
+    each_breaks(&broken, many_looks);
 }

@@ -6,11 +6,11 @@ mod common;
 
 use std::collections::BTreeSet;
 
-use common::{looked, right_builds, Counts};
+use common::{looked, right_builds, Bed, Counts};
 use compare::call::Call;
 use compare::entries::rearrange;
 use compare::guarded::GuardedTables;
-use compare::nodes::{self, Spread};
+use compare::nodes;
 use compare::Builder;
 use plain::cavity::Cavity;
 use plain::loaded::Loaded;
@@ -22,15 +22,6 @@ type Corners = [u16; 4];
 
 fn corners(mesh: &Loaded, c: usize) -> Corners {
     RightRules.order(c, mesh.entries[c].corners)
-}
-
-/// The mesh that a build makes.
-struct Bed<'a> {
-    build: &'a dyn Builder,
-    sides: Position,
-    spread: Spread,
-    mesh: Mesh,
-    tables: Owned,
 }
 
 /// A position and the cell that it is located in.
@@ -45,19 +36,6 @@ struct Parked {
 }
 
 impl Bed<'_> {
-    fn started<'a>(build: &'a dyn Builder, random: &mut Random) -> Bed<'a> {
-        let sides = nodes::sides(random);
-        let mut tables = Owned::with_room(40, 250);
-        let mesh = build.start(sides, &mut tables.lend()).mesh;
-        Bed {
-            build,
-            sides,
-            spread: nodes::spread(random),
-            mesh,
-            tables,
-        }
-    }
-
     fn loaded(&mut self) -> Loaded<'static> {
         Loaded::load(&RightRules, self.mesh, &self.tables.lend())
     }
@@ -177,7 +155,7 @@ fn parked_heads(build: &dyn Builder) -> Result<Counts, String> {
     let mut counts = Counts::default();
     for seed in 0..150 {
         let mut random = Random::new(seed);
-        let mut bed = Bed::started(build, &mut random);
+        let mut bed = Bed::started(build, &mut random, |_| Owned::with_room(40, 250));
         for _ in 0..12 {
             insert_elsewhere(&mut bed, &mut random, &mut counts)?;
         }
@@ -201,7 +179,7 @@ fn cells(bed: &mut Bed) -> BTreeSet<Corners> {
 fn any_order(build: &dyn Builder) -> Result<(), String> {
     for seed in 0..150 {
         let mut random = Random::new(seed);
-        let mut bed = Bed::started(build, &mut random);
+        let mut bed = Bed::started(build, &mut random, |_| Owned::with_room(40, 250));
         for _ in 0..4 {
             let call = bed.insertion(&mut random);
             bed.insert(&call);

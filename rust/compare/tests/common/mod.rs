@@ -5,6 +5,7 @@ use std::collections::BTreeMap;
 use compare::call::{Call, Left};
 use compare::generate::{History, Step};
 use compare::guarded::GuardedTables;
+use compare::nodes::{self, Spread};
 use compare::{Builder, Plain, Tuned};
 use plain::random::Random;
 use plain::{Mesh, Owned, Position};
@@ -27,6 +28,55 @@ impl Counts {
         let missing: Vec<_> = missing.map(|(situation, _)| situation).collect();
         assert!(missing.is_empty(), "{missing:?}");
         assert_eq!(self.0.len(), situations);
+    }
+}
+
+/// The mesh that a build makes.
+pub struct Bed<'a> {
+    pub build: &'a dyn Builder,
+    pub sides: Position,
+    pub spread: Spread,
+    pub mesh: Mesh,
+    pub tables: Owned,
+}
+
+impl<'a> Bed<'a> {
+    pub fn started(
+        build: &'a dyn Builder,
+        random: &mut Random,
+        room: impl FnOnce(&mut Random) -> Owned,
+    ) -> Bed<'a> {
+        let sides = nodes::sides(random);
+        let mut tables = room(random);
+        let mesh = build.start(sides, &mut tables.lend()).mesh;
+        Bed {
+            build,
+            sides,
+            spread: nodes::spread(random),
+            mesh,
+            tables,
+        }
+    }
+}
+
+/// Of each right build the laws hold, and so many situations occur.
+#[track_caller]
+pub fn each_holds(situations: usize, laws: impl Fn(&dyn Builder) -> Result<Counts, &'static str>) {
+    for build in right_builds() {
+        let counts = laws(build.as_ref()).expect("every law");
+        counts.all_occur(situations);
+    }
+}
+
+/// Each wrong build breaks its law first.
+#[track_caller]
+pub fn each_breaks(
+    broken: &[(&str, &'static str)],
+    laws: impl Fn(&dyn Builder) -> Result<Counts, &'static str>,
+) {
+    for &(name, law) in broken {
+        let build = compare::named(name).expect("a build");
+        assert_eq!(laws(build.as_ref()).err(), Some(law), "{name}");
     }
 }
 
