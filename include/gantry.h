@@ -130,8 +130,8 @@ gantry_started gantry_start(uint32_t x, uint32_t y, uint32_t z, GANTRY_TABLES, i
  *
  * While all nodes since the start have gone in by the sphere test, here or in a list, no point of the mesh lies strictly inside the
  * sphere of any cell, and the correction removes nothing: before and after are equal. Refused calls of any kind may stand between. That
- * is proved in crates/spheres. It is not said of a mesh with nodes that version 0.4 put in, or of tables of another origin: gantry_check
- * does not look at spheres.
+ * is proved in crates/spheres and crates/corrected_calls. It is not said of a mesh with nodes that version 0.4 put in, or of tables of
+ * another origin: gantry_check does not look at spheres.
  */
 gantry_inserted gantry_insert(gantry_mesh mesh, GANTRY_TABLES, int32_t *corrections, size_t corrections_len,
                               uint32_t x, uint32_t y, uint32_t z);

@@ -3,3 +3,4 @@ pub mod Theorem
 pub mod Started
 pub mod Numbers
 pub mod Located
+pub mod Spheres

@@ -14,7 +14,7 @@ use Rattle.located.specs.Claim.{Stands, KeepsNumber}
 use Rattle.located.specs.Parked.{LocatedIn}
 use Rattle.located.proofs.Parked.{parked, numbers-stay}
 use Rattle.corrected_calls.specs.Calls.{Build, bare, Call, buildAfter}
-use Rattle.corrected_calls.proofs.Theorem.{as-without}
+use Rattle.corrected_calls.proofs.Theorem.{picked-after, as-without}
 
 -- b′ is what is left of the mesh b
 abbrev pub StaysIn : MeshBuild → Position → MeshBuild → Type 0
@@ -27,8 +27,8 @@ NumbersKept b b′ = (w c : ℕ) → isMesh (b .mesh) (b .tables) w ≡ true →
 
 -- while its located cell stands, a position is located in it
 pub parked-with : (b : Build) (cs : List Call) (q : Position) → StaysIn (bare b) q (bare (buildAfter b cs))
-parked-with b cs q = let W = as-without b cs in subst (StaysIn (bare b) q) (sym (W .after)) (parked (bare b) (W .calls) q)
+parked-with b cs q = let W = as-without b cs in subst (StaysIn (bare b) q) (sym (picked-after (W .picked))) (parked (bare b) (W .calls) q)
 
 -- a cell that stands keeps its number
 pub numbers-stay-with : (b : Build) (cs : List Call) → NumbersKept (bare b) (bare (buildAfter b cs))
-numbers-stay-with b cs = let W = as-without b cs in subst (NumbersKept (bare b)) (sym (W .after)) (numbers-stay (bare b) (W .calls))
+numbers-stay-with b cs = let W = as-without b cs in subst (NumbersKept (bare b)) (sym (picked-after (W .picked))) (numbers-stay (bare b) (W .calls))

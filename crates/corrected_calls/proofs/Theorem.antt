@@ -27,7 +27,7 @@ use Rattle.locate.proofs.First.{holder-is-first}
 use Rattle.covering.specs.Claim.{Covering}
 use Rattle.covering.proofs.Theorem.{checked-covering, some-holds, every-list-covers as covers-without}
 use Rattle.insertion.proofs.Refusals.{test-to-zero, both-pass}
-use Rattle.calls.specs.Calls.{meshAfter, acceptedBy as meshAccepted, Call as MeshCall, startBuild as plainStart, Claim as MeshClaim}
+use Rattle.calls.specs.Calls.{meshAfter, acceptedBy as meshAccepted, Call as MeshCall, outcome as meshOutcome, startBuild as plainStart, Claim as MeshClaim}
 use Rattle.calls.proofs.Calls.{every-list-of-calls as every-list-without}
 use Rattle.corrections.specs.declared.Correction.{Correction}
 use Rattle.corrections.specs.declared.Corrected.the-variants.{By}
@@ -37,57 +37,48 @@ use Rattle.corrections.proofs.Refusals.{range-in, length-long, length-passed}
 use Rattle.corrections.proofs.Values.{correction-at-a-point}
 use Rattle.corrections.proofs.Keeping.{set-length, set-own, range-intro, range-again}
 use Rattle.corrected_calls.specs.Calls.{Build, bare, startBuild, Call, on-mesh, set, read, outcome, buildAfter, acceptedBy, Claim, SetThenRead}
-use Rattle.corrected_calls.proofs.Plain.{Standing, standing?, Nothing, InRange, call-same, call-nothing, call-range}
+use Rattle.corrected_calls.proofs.Plain.{Standing, standing?, Same, InRange, call-same, call-nothing, call-range}
 
 -- ---- what a list of calls does to the mesh, some of its calls do without corrections
 
--- of a list's calls on the mesh some are picked, in their order
-pub data Picked : List MeshCall → List Call → Type 0 where
-  none : Picked [] []
-  taken : {c : MeshCall} {ms : List MeshCall} {cs : List Call} → Picked ms cs → Picked (c ∷ ms) (on-mesh c ∷ cs)
-  passed-over : {c : Call} {ms : List MeshCall} {cs : List Call} → Picked ms cs → Picked ms (c ∷ cs)
+-- of the calls on the mesh b and its corrections some are picked, in their order: those do the same without corrections, and the others nothing
+pub data Picked : Build → List MeshCall → List Call → Type 0 where
+  none : {b : Build} → Picked b [] []
+  taken : {b : Build} {c : MeshCall} {ms : List MeshCall} {cs : List Call} →
+      Same (outcome b (on-mesh c)) (meshOutcome (bare b) c) → Picked (outcome b (on-mesh c) .after) ms cs → Picked b (c ∷ ms) (on-mesh c ∷ cs)
+  passed-over : {b : Build} {c : Call} {ms : List MeshCall} {cs : List Call} →
+      bare (outcome b c .after) ≡ bare b → outcome b c .accepted ≡ [] → Picked (outcome b c .after) ms cs → Picked b ms (c ∷ cs)
+
+pub picked-after : {b : Build} {ms : List MeshCall} {cs : List Call} → Picked b ms cs → bare (buildAfter b cs) ≡ meshAfter (bare b) ms
+unfolding buildAfter meshAfter
+picked-after none = refl
+picked-after {ms = c ∷ ms} (taken s P) = picked-after P ∙ ap (λ b. meshAfter b ms) (s .after)
+picked-after {ms} (passed-over e a P) = picked-after P ∙ ap (λ b. meshAfter b ms) e
+
+picked-accepted : {b : Build} {ms : List MeshCall} {cs : List Call} → Picked b ms cs → acceptedBy b cs ≡ meshAccepted (bare b) ms
+unfolding acceptedBy meshAccepted
+picked-accepted none = refl
+picked-accepted {ms = c ∷ ms} (taken s P) = ap₂ (λ ps qs. ps ++ qs) (s .accepted) (picked-accepted P ∙ ap (λ b. meshAccepted b ms) (s .after))
+picked-accepted {ms} (passed-over e a P) = ap₂ (λ ps qs. ps ++ qs) a (picked-accepted P ∙ ap (λ b. meshAccepted b ms) e)
 
 pub record Without (b : Build) (cs : List Call) : Type 0 where
   pub calls : List MeshCall
-  pub picked : Picked calls cs
-  pub after : bare (buildAfter b cs) ≡ meshAfter (bare b) calls
-  pub accepted : acceptedBy b cs ≡ meshAccepted (bare b) calls
-
--- no call, or one that does nothing, before the others
-does-nothing : (b : Build) (c : Call) (cs : List Call) → Nothing b (outcome b c) → Without b cs → Without b (c ∷ cs)
-unfolding buildAfter acceptedBy
-does-nothing b c cs N W = record {
-  calls = W .calls;
-  picked = passed-over (W .picked);
-  after = ap (λ b. bare (buildAfter b cs)) (N .after) ∙ W .after;
-  accepted = ap₂ (λ ps b. ps ++ acceptedBy b cs) (N .accepted) (N .after) ∙ W .accepted;
-}
-
--- a call of the mesh's own
-on-with : (b : Build) (c : MeshCall) (cs : List Call) → Standing (b .mesh) (b .tables) (b .corrections) →
-    Without (outcome b (on-mesh c) .after) cs → Without b (on-mesh c ∷ cs)
-unfolding buildAfter acceptedBy outcome meshAfter meshAccepted
-on-with b c cs S W =
-    let s = call-same (b .mesh) (b .tables) (b .corrections) S c in
-    record {
-      calls = c ∷ W .calls;
-      picked = taken (W .picked);
-      after = W .after ∙ ap (λ b. meshAfter b (W .calls)) (s .after);
-      accepted = ap₂ (λ ps qs. ps ++ qs) (s .accepted) (W .accepted ∙ ap (λ b. meshAccepted b (W .calls)) (s .after));
-    }
+  pub picked : Picked b calls cs
 
 on-either : (b : Build) (c : MeshCall) (cs : List Call) → Standing (b .mesh) (b .tables) (b .corrections) ⊎ ((r : ℕ) → withTable (b .mesh) (b .tables) (b .corrections) r ≢ 0) →
-    Without (outcome b (on-mesh c) .after) cs → Without b cs → Without b (on-mesh c ∷ cs)
-on-either b c cs (inl S) W U = on-with b c cs S W
-on-either b c cs (inr refuses) W U = does-nothing b (on-mesh c) cs (unfold outcome in call-nothing (b .mesh) (b .tables) (b .corrections) refuses c) U
+    Without (outcome b (on-mesh c) .after) cs → Without b (on-mesh c ∷ cs)
+unfolding outcome
+on-either b c cs (inl S) W = record { calls = c ∷ W .calls; picked = taken (call-same (b .mesh) (b .tables) (b .corrections) S c) (W .picked) }
+on-either b c cs (inr refuses) W =
+    let N = call-nothing (b .mesh) (b .tables) (b .corrections) refuses c in record { calls = W .calls; picked = passed-over (ap bare (N .after)) (N .accepted) (W .picked) }
 
 -- EVERY LIST OF CALLS LEAVES THE MESH THAT SOME OF ITS CALLS LEAVE WITHOUT CORRECTIONS, AND ACCEPTS THEIR NODES
 pub as-without : (b : Build) (cs : List Call) → Without b cs
-unfolding buildAfter acceptedBy meshAfter meshAccepted outcome
-as-without b [] = record { calls = []; picked = none; after = refl; accepted = refl }
-as-without b (set w v d ∷ cs) = let W = as-without (outcome b (set w v d) .after) cs in record { calls = W .calls; picked = passed-over (W .picked); after = W .after; accepted = W .accepted }
-as-without b (read w p ∷ cs) = does-nothing b (read w p) cs record { after = refl; accepted = refl } (as-without b cs)
-as-without b (on-mesh c ∷ cs) = on-either b c cs (standing? (b .mesh) (b .tables) (b .corrections)) (as-without (outcome b (on-mesh c) .after) cs) (as-without b cs)
+unfolding outcome
+as-without b [] = record { calls = []; picked = none }
+as-without b (set w v d ∷ cs) = let W = as-without (outcome b (set w v d) .after) cs in record { calls = W .calls; picked = passed-over refl refl (W .picked) }
+as-without b (read w p ∷ cs) = let W = as-without b cs in record { calls = W .calls; picked = passed-over refl refl (W .picked) }
+as-without b (on-mesh c ∷ cs) = on-either b c cs (standing? (b .mesh) (b .tables) (b .corrections)) (as-without (outcome b (on-mesh c) .after) cs)
 
 -- ---- settings
 
@@ -152,12 +143,16 @@ module _ (X Y Z : ℕ) (t : Tables) (cs : List ℤ) (w : ℕ) (e : withLength t 
   abbrev start : Build
   start = startBuild X Y Z t cs w
 
-  accepted : startRefusal X Y Z t w ≡ 0
-  accepted = length-passed t cs _ e .1
+  pub start-accepted : startRefusal X Y Z t w ≡ 0
+  start-accepted = length-passed t cs _ e .1
 
-  bare-start : bare start ≡ plainStart X Y Z t w
+  pub bare-start : bare start ≡ plainStart X Y Z t w
   unfolding startBuild startWith plainStart startTables
-  bare-start = rw (e, accepted)
+  bare-start = rw (e, start-accepted)
+
+  -- what is left after the start is what the picked calls leave after the start without corrections
+  pub start-after : (calls : List Call) → bare (buildAfter start calls) ≡ meshAfter (plainStart X Y Z t w) (as-without start calls .calls)
+  start-after calls = let W = as-without start calls in picked-after (W .picked) ∙ ap (λ b. meshAfter b (W .calls)) bare-start
 
   start-range : InRange start
   unfolding startBuild startWith
@@ -169,9 +164,9 @@ module _ (X Y Z : ℕ) (t : Tables) (cs : List ℤ) (w : ℕ) (e : withLength t 
       let W = as-without start calls in
       record {
         mesh =
-            subst (λ b. MeshClaim X Y Z b (acceptedBy start calls)) (sym (W .after ∙ ap (λ b. meshAfter b (W .calls)) bare-start))
-            (subst (MeshClaim X Y Z (meshAfter (plainStart X Y Z t w) (W .calls))) (sym (W .accepted ∙ ap (λ b. meshAccepted b (W .calls)) bare-start))
-            (every-list-without X Y Z t w accepted (W .calls)));
+            subst (λ b. MeshClaim X Y Z b (acceptedBy start calls)) (sym (start-after calls))
+            (subst (MeshClaim X Y Z (meshAfter (plainStart X Y Z t w) (W .calls))) (sym (picked-accepted (W .picked) ∙ ap (λ b. meshAccepted b (W .calls)) bare-start))
+            (every-list-without X Y Z t w start-accepted (W .calls)));
         range = ranges start calls start-range;
       }
 
@@ -179,7 +174,7 @@ module _ (X Y Z : ℕ) (t : Tables) (cs : List ℤ) (w : ℕ) (e : withLength t 
   pub every-list-covers : (calls : List Call) → let b = buildAfter start calls in Covering X Y Z (b .mesh .used) (b .tables)
   every-list-covers calls =
       let W = as-without start calls in
-      subst (λ b. Covering X Y Z (b .mesh .used) (b .tables)) (sym (W .after ∙ ap (λ b. meshAfter b (W .calls)) bare-start)) (covers-without X Y Z t w accepted (W .calls))
+      subst (λ b. Covering X Y Z (b .mesh .used) (b .tables)) (sym (start-after calls)) (covers-without X Y Z t w start-accepted (W .calls))
 
 -- ---- WHAT WAS SET IS READ AT THE POINT
 

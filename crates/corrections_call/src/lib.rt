@@ -13,7 +13,7 @@ use corrections_value::out_of_range;
 use corrections_value::put_correction;
 use geometry::Position;
 use geometry::volume::in_box;
-use locate_call::first_holder;
+use locate_first::first_holder;
 use mesh::Mesh;
 use mesh_tables::clear;
 

@@ -1,4 +1,4 @@
-// A node after tests 1 to 3, with its numbers in the table of corrections: nothing is written before every test has passed.
+// A node after tests 1 to 3, over a table of corrections in range: nothing is written before every test has passed.
 
 ghost use mathlib.Core.Bool.{true};
 ghost use mathlib.Core.Path.{_≡_};
@@ -10,18 +10,15 @@ ghost use Rattle.cavity.specs.Answers.{answersOf};
 ghost use Rattle.insertion.specs.Inner.{Scratch};
 ghost use Rattle.corrections.specs.Inner.{Standing, AttemptKeeps};
 use cavity::Node;
-use corrections_star::insert_numbered;
-use corrections_tests::early_refusal;
-use corrections_value::out_of_range;
+use corrections_allow::insert_allowed;
 use geometry::Position;
 use insertion::Attempt;
 use insertion::Inserted;
 use insertion_find::find;
-use insertion_marks::marks_allow;
 use mesh::Mesh;
 
-// A node by the sphere test or by answers handed in, over a table in range; where marks are asked for, only if these are the marks of a
-// look. What is lent from `state` on serves node after node: after an accepted one it is as it has to be for the next.
+// A node by the sphere test or by answers handed in, with its numbers in the table; where marks are asked for, only if these are those of
+// a look. What is lent from `state` on serves node after node: after an accepted one it is as it has to be for the next.
 pub fn attempt_node(
     mesh: Mesh,
     points: &mut [u32],
@@ -78,13 +75,7 @@ pub fn attempt_node(
             inserted: Inserted::Refused(refusal),
         };
     }
-    if !marks_allow(asked, node.used, state, marks) {
-        return Attempt {
-            refusal: 14,
-            inserted: Inserted::Refused(14),
-        };
-    }
-    let inserted = insert_numbered(
+    insert_allowed(
         mesh,
         points,
         corners,
@@ -92,69 +83,12 @@ pub fn attempt_node(
         corrections,
         node,
         found,
+        marks,
+        asked,
         state,
         list,
         faces,
         ranks,
         slots,
-    );
-    Attempt {
-        refusal: 0,
-        inserted: inserted,
-    }
-}
-
-// The same over any table, with what it takes for one node alone.
-pub fn insert_node(
-    mesh: Mesh,
-    points: &mut [u32],
-    corners: &mut [u16],
-    neighbours: &mut [u16],
-    corrections: &mut [i32],
-    work: usize,
-    answers: &[u8],
-    handed: bool,
-    marks: &[u8],
-    asked: bool,
-    q: Position,
-) -> Attempt
-    requires { ⌜ (isMesh mesh (tablesIn points corners neighbours) work ≡ true) × (handed ≡ true → mesh .used ≤ length (now answers))
-        × (3 * pointCapacity (tablesIn points corners neighbours) ≤ length (now corrections)) ⌝ }
-    ensures { λ r. ⌜ AttemptKeeps asked (now (marks .entry)) mesh (tablesBefore points corners neighbours) (now (corrections .entry)) work q (answersOf handed (now (answers .entry)))
-        r (tablesAfter points corners neighbours) (now (corrections .exit)) ⌝ }
-{
-    if out_of_range(corrections, mesh.points as usize) {
-        let early = early_refusal(mesh, points, q);
-        return Attempt {
-            refusal: early,
-            inserted: Inserted::Refused(early),
-        };
-    }
-    let mut state = [0u8; 4096];
-    let mut list = [0u16; 4096];
-    let mut faces = [0u8; 4096];
-    let mut denied = [0u16; 4096];
-    let mut exposed = [0u8; 1024];
-    let mut ranks = [0u16; 4096];
-    let mut slots = [0u16; 4096];
-    attempt_node(
-        mesh,
-        points,
-        corners,
-        neighbours,
-        corrections,
-        work,
-        answers,
-        handed,
-        marks,
-        asked,
-        q,
-        &mut state,
-        &mut list,
-        &mut faces,
-        &mut denied,
-        &mut exposed,
-        &mut ranks,
-        &mut slots,
     )
 }

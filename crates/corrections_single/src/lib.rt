@@ -4,7 +4,7 @@ ghost use lib.ListN.{length};
 ghost use Rattle.mesh.specs.Tables.{tablesBefore, tablesAfter};
 ghost use Rattle.cavity.specs.Answers.{sphere, handed};
 ghost use Rattle.corrections.specs.Calls.{Leaves, insertWith};
-use corrections_node::insert_node;
+use corrections_insert::insert_node;
 use corrections_tests::table_refusal;
 use geometry::Position;
 use insertion::Inserted;

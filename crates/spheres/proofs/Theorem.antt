@@ -69,7 +69,7 @@ module _ (m : Mesh) (t : Tables) (w : ℕ) (p : Position) (e : isMesh m t w ≡ 
 by-own-test : KeptBy (λ b ps. Clear b) sphere
 by-own-test m t w p ps e r G = node-clear m t w p e r G
 
-own-call : (b : Build) (c : Call) → OwnCall b c → Clear b → Clear (outcome b c .after)
+own-call : (b : Build) (c : Call) → OwnCall c (outcome b c .accepted) → Clear b → Clear (outcome b c .after)
 unfolding OwnCall
 own-call b (by-sphere w p) o G = unfold outcome in insert-keeps (λ b ps. Clear b) sphere by-own-test (b .mesh) (b .tables) w p [] G
 own-call b (by-answers w bytes p) o G = none-accepted b w bytes p G o

@@ -15,18 +15,18 @@ use Rattle.insertion.specs.Insertion.{insertCall}
 use Rattle.calls.specs.Calls.{Build, Call, by-sphere, by-answers, by-marks, by-list, look, outcome}
 use Rattle.spheres.specs.Exact.{Empty}
 
--- by the sphere test, with marks or without, or a look; or with answers handed in, and no node accepted
-unfoldable pub OwnCall : Build → Call → Type 0
-OwnCall b (by-sphere w p) = Unit {0}
-OwnCall b (by-answers w bytes p) = outcome b (by-answers w bytes p) .accepted ≡ []
-OwnCall b (by-marks w marks p) = Unit {0}
-OwnCall b (by-list w ns) = Unit {0}
-OwnCall b (look w marks p) = Unit {0}
+-- whether a call that accepts the nodes ps is by our own test: by the sphere test, with marks or without, or a look; or with answers handed in, and no node accepted
+unfoldable pub OwnCall : Call → List Position → Type 0
+OwnCall (by-sphere w p) ps = Unit {0}
+OwnCall (by-answers w bytes p) ps = ps ≡ []
+OwnCall (by-marks w marks p) ps = Unit {0}
+OwnCall (by-list w ns) ps = Unit {0}
+OwnCall (look w marks p) ps = Unit {0}
 
 -- each call, on what those before it left
 unfoldable pub OwnCalls : Build → List Call → Type 0
 OwnCalls b [] = Unit {0}
-OwnCalls b (c ∷ cs) = OwnCall b c × OwnCalls (outcome b c .after) cs
+OwnCalls b (c ∷ cs) = OwnCall c (outcome b c .accepted) × OwnCalls (outcome b c .after) cs
 
 pub record EmptySpheres (b : Build) : Type 0 where
   -- 'no neighbour's far corner strictly inside any cell's sphere'

@@ -3,8 +3,8 @@ use Rattle.insertion.proofs.Acceptance.{fresh}
 use Rattle.corrections.proofs.Keeping.{numbers-lent, points-lent}
 use Rattle.corrections.proofs.Leaving.{refused-wrong}
 use borrow.Author.Needs.{needs}
-use Rattle.corrections_node.proofs.insert_node.Statement.{statement}
-use Rattle.corrections_node.proofs.insert_node.Tie as tie
+use Rattle.corrections_insert.proofs.insert_node.Statement.{statement}
+use Rattle.corrections_insert.proofs.insert_node.Tie as tie
 
 cast-out-of-range : tie.Need-cast-out-of-range
 cast-out-of-range c = search needs

@@ -1,7 +1,7 @@
 use borrow.Author.Needs.{needs}
 use Rattle.locate.proofs.First.{earlier-new, earlier-old}
-use Rattle.locate_call.proofs.earlier.Statement.{statement}
-use Rattle.locate_call.proofs.earlier.Tie as tie
+use Rattle.locate_first.proofs.earlier.Statement.{statement}
+use Rattle.locate_first.proofs.earlier.Tie as tie
 
 key-of-requires : tie.Need-key-of-requires
 key-of-requires c κs = search needs

@@ -11,8 +11,8 @@ use Rattle.locate.specs.Locate.{holds}
 use Rattle.locate.specs.Inner.{holdsFour}
 use Rattle.locate.proofs.Codes.{codes-length, codes-there, may-hold-cell, may-hold-coded, may-not-hold, holds-is}
 use Rattle.locate.proofs.First.{CandidateAfter, candidate-none, candidate-more, candidate-earlier, candidate-is}
-use Rattle.locate_call.proofs.first_holder.Statement.{statement}
-use Rattle.locate_call.proofs.first_holder.Tie as tie
+use Rattle.locate_first.proofs.first_holder.Statement.{statement}
+use Rattle.locate_first.proofs.first_holder.Tie as tie
 
 abbrev Inv-loop : tie.InvT-loop
 Inv-loop points corners np n q codes first₀ c₀ first c = (c ≤ n) × CandidateAfter (tables points corners []) q n c first
