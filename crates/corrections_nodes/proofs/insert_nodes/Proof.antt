@@ -8,8 +8,8 @@ use Rattle.mesh.specs.Tables.{tables}
 use Rattle.insertion.specs.Inner.{Scratch}
 use Rattle.insertion.proofs.Acceptance.{fresh}
 use Rattle.corrections.proofs.Listing.{Inserting, none-yet, place<, standing, one-more, scratch-next, stops-here, ends-here, node-read}
-use Rattle.corrections_list.proofs.insert_nodes.Statement.{statement}
-use Rattle.corrections_list.proofs.insert_nodes.Tie as tie
+use Rattle.corrections_nodes.proofs.insert_nodes.Statement.{statement}
+use Rattle.corrections_nodes.proofs.insert_nodes.Tie as tie
 
 abbrev Inv-loop : tie.InvT-loop
 Inv-loop points₀ corners₀ neighbours₀ corrections₀ work nodes none state₀ list₀ faces₀ denied₀ exposed₀ ranks₀ slots₀ count now₀ i₀ points corners neighbours corrections state list faces denied exposed ranks slots now i =
