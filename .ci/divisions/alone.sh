@@ -13,6 +13,7 @@ cp -a target/stamp "$scratch/target"
 ln -s "$PWD"/target/rlib/*.rlib "$scratch/target/rlib"
 rm "$scratch/target/rlib/corrections_round.rlib"
 cd "$scratch"
+export GIT_CEILING_DIRECTORIES=${scratch%/*} # the patches are for this copy, also where it lies inside a repository
 for name in alone "${@:2}"; do
     git apply "$patches/$name.patch"
 done
