@@ -64,6 +64,7 @@ function remainder_read(i,    todo, n, seen) {
 }
 
 END {
+    axes = 3
     if (dead) exit 1
     if (!("gantry_correction" in start)) die("the archive has no gantry_correction")
     top = most("gantry_correction")
@@ -73,6 +74,6 @@ END {
         all++
         if (wrong) bad++
     }
-    print "divisions: " all + 0 " in the archive; gantry_correction takes at most " top " of them, for 3 axes"
-    exit top != 3 || bad
+    print "divisions: " all + 0 " in the archive; gantry_correction takes at most " top " of them, for " axes " axes"
+    exit top != axes || bad
 }

@@ -1,6 +1,6 @@
 -- Document 02 §2 over lists that hold settings and readings too, carried over from lists without corrections.
 use Prim.Native.Nat.{ℕ}
-use mathlib.Core.List.{List, [], _∷_}
+use mathlib.Core.List.{List, _∷_}
 use mathlib.Core.Path.{_≡_, sym, ap, _∙_, subst}
 use lib.IntN.{ℤ}
 use Rattle.geometry.specs.declared.Position.{Position}
