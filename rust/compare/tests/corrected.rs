@@ -4,7 +4,7 @@
 
 mod common;
 
-use common::{each_breaks, each_holds, looked, Bed, Counts};
+use common::{each_breaks, each_holds, looked, BuiltMesh, Counts};
 use compare::call::Call;
 use compare::guarded::GuardedTables;
 use compare::nodes;
@@ -21,7 +21,7 @@ fn used_room(random: &mut Random) -> Owned {
     tables
 }
 
-impl Bed<'_> {
+impl BuiltMesh<'_> {
     fn loaded(&self) -> Loaded<'static> {
         Loaded::load(&RightRules, self.mesh, &self.tables.clone().lend())
     }
@@ -48,24 +48,24 @@ impl Bed<'_> {
 }
 
 /// A start in these tables gives the box corners 0, and leaves the rest.
-fn starts_at_0(bed: &mut Bed, _: &mut Random) -> bool {
-    let (mut tables, before) = (bed.tables.clone(), &bed.tables.corrections);
-    bed.build.start(bed.sides, &mut tables.lend());
+fn starts_at_0(built: &mut BuiltMesh, _: &mut Random) -> bool {
+    let (mut tables, before) = (built.tables.clone(), &built.tables.corrections);
+    built.build.start(built.sides, &mut tables.lend());
     tables.corrections[..24] == [0; 24] && tables.corrections[24..] == before[24..]
 }
 
 /// It is within a half of the sum over the volume of any cell that holds the position, and away from zero where it is a half.
-fn is_that_of_every_cell(bed: &mut Bed, random: &mut Random) -> bool {
-    let mesh = bed.loaded();
+fn is_that_of_every_cell(built: &mut BuiltMesh, random: &mut Random) -> bool {
+    let mesh = built.loaded();
     let corners = mesh.positions(random.pick(&mesh.cells()));
     let p = nodes::in_cell(random, corners);
-    let Ok(read) = bed.read(p) else {
+    let Ok(read) = built.read(p) else {
         return false;
     };
     mesh.holding(p).into_iter().all(|c| {
         let own = mesh.entries[c]
             .corners
-            .map(|point| bed.of_point(point.into()));
+            .map(|point| built.of_point(point.into()));
         (0..3).all(|axis| {
             let term = |i: usize| mesh.side(c, i, p) * i128::from(own[i][axis]);
             let (sum, volume) = ((0..4).map(term).sum::<i128>(), mesh.volume(c));
@@ -80,57 +80,57 @@ fn is_that_of_every_cell(bed: &mut Bed, random: &mut Random) -> bool {
     })
 }
 
-fn is_a_point_s_own(bed: &mut Bed, _: &mut Random) -> bool {
-    let points = bed.loaded().points.into_iter().enumerate();
-    let mut points = points.map(|(point, p)| bed.read(p) == Ok(bed.of_point(point)));
+fn is_a_point_s_own(built: &mut BuiltMesh, _: &mut Random) -> bool {
+    let points = built.loaded().points.into_iter().enumerate();
+    let mut points = points.map(|(point, p)| built.read(p) == Ok(built.of_point(point)));
     points.all(|is_own| is_own)
 }
 
 /// What was set is read, and nothing else changes.
-fn is_set(bed: &mut Bed, random: &mut Random) -> bool {
-    let point = random.index(bed.mesh.points as usize);
+fn is_set(built: &mut BuiltMesh, random: &mut Random) -> bool {
+    let point = random.index(built.mesh.points as usize);
     let numbers = [0; 3].map(|_| random.below(2_001) as i32 - 1_000);
-    let mut expected = bed.tables.clone();
+    let mut expected = built.tables.clone();
     expected.corrections.as_chunks_mut().0[point] = numbers;
     expected.work.fill(0);
-    bed.make(&Call::SetCorrection(point as u32, numbers)) == 0 && bed.tables == expected
+    built.make(&Call::SetCorrection(point as u32, numbers)) == 0 && built.tables == expected
 }
 
 /// A refused setting leaves all.
-fn is_not_set(bed: &mut Bed, random: &mut Random) -> bool {
-    let before = bed.tables.clone();
-    let (points, wrong) = (bed.mesh.points, random.pick(&[1_001, -1_001, i32::MIN]));
+fn is_not_set(built: &mut BuiltMesh, random: &mut Random) -> bool {
+    let before = built.tables.clone();
+    let (points, wrong) = (built.mesh.points, random.pick(&[1_001, -1_001, i32::MIN]));
     let refused = [
-        bed.make(&Call::SetCorrection(points, [wrong; 3])),
-        bed.make(&Call::SetCorrection(0, [0, wrong, 0])),
+        built.make(&Call::SetCorrection(points, [wrong; 3])),
+        built.make(&Call::SetCorrection(0, [0, wrong, 0])),
     ];
-    bed.tables.work.clone_from(&before.work);
-    refused == [13, 12] && bed.tables == before
+    built.tables.work.clone_from(&before.work);
+    refused == [13, 12] && built.tables == before
 }
 
 /// Of any kind: the node has what its position had, and every other point what it had.
-fn moves_nothing(bed: &mut Bed, random: &mut Random) -> bool {
-    let p = nodes::inside(random, bed.sides, bed.spread);
+fn moves_nothing(built: &mut BuiltMesh, random: &mut Random) -> bool {
+    let p = nodes::inside(random, built.sides, built.spread);
     let call = match random.below(4) {
         0 => Call::Insert(p),
-        1 => Call::InsertAnswers(nodes::answers(random, bed.mesh), p),
-        2 => looked(bed.build, bed.mesh, &bed.tables, p),
+        1 => Call::InsertAnswers(nodes::answers(random, built.mesh), p),
+        2 => looked(built.build, built.mesh, &built.tables, p),
         _ => Call::InsertList(p.to_vec()),
     };
-    let (before, read) = (bed.tables.corrections.clone(), bed.read(p));
+    let (before, read) = (built.tables.corrections.clone(), built.read(p));
     let mut expected = before.clone();
-    let point = bed.mesh.points as usize;
-    if bed.make(&call) == 0 {
+    let point = built.mesh.points as usize;
+    if built.make(&call) == 0 {
         let node = expected.as_chunks_mut().0.get_mut(point);
         let (Some(node), Ok(read)) = (node, read) else {
             return false;
         };
         *node = read;
     }
-    bed.tables.corrections == expected && bed.read(p) == read
+    built.tables.corrections == expected && built.read(p) == read
 }
 
-type Law = fn(&mut Bed, &mut Random) -> bool;
+type Law = fn(&mut BuiltMesh, &mut Random) -> bool;
 
 const LAWS: [(&str, Law); 6] = [
     ("starts at 0", starts_at_0),
@@ -146,18 +146,18 @@ fn many_meshes(build: &dyn Builder) -> Result<Counts, &'static str> {
     let mut counts = Counts::default();
     for seed in 0..150 {
         let mut random = Random::new(seed);
-        let mut bed = Bed::started(build, &mut random, used_room);
+        let mut built = BuiltMesh::started(build, &mut random, used_room);
         for round in 0..10 {
             for (law, holds) in LAWS {
-                if !holds(&mut bed, &mut random) {
+                if !holds(&mut built, &mut random) {
                     return Err(law);
                 }
             }
-            corrections::scatter(&mut random, bed.mesh, &mut bed.tables);
+            corrections::scatter(&mut random, built.mesh, &mut built.tables);
             counts.add([
-                ("a mesh of 8 points", bed.mesh.points == 8),
-                ("a mesh of more than 12", bed.mesh.points > 12),
-                ("a node went in", bed.mesh.points > 8 && round == 0),
+                ("a mesh of 8 points", built.mesh.points == 8),
+                ("a mesh of more than 12", built.mesh.points > 12),
+                ("a node went in", built.mesh.points > 8 && round == 0),
             ]);
         }
     }

@@ -26,7 +26,7 @@ enum Places {
 }
 
 /// The mesh that a build makes.
-struct Bed<'a> {
+struct BuiltMesh<'a> {
     build: &'a dyn Builder,
     sides: Position,
     places: Places,
@@ -53,11 +53,11 @@ fn box_and_places(random: &mut Random) -> (Position, Places) {
     }
 }
 
-impl Bed<'_> {
-    fn started<'a>(build: &'a dyn Builder, sides: Position, places: Places) -> Bed<'a> {
+impl BuiltMesh<'_> {
+    fn started<'a>(build: &'a dyn Builder, sides: Position, places: Places) -> BuiltMesh<'a> {
         let mut tables = Owned::with_room(50, 300);
         let mesh = build.start(sides, &mut tables.lend()).mesh;
-        Bed {
+        BuiltMesh {
             build,
             sides,
             places,
@@ -152,8 +152,8 @@ fn situations(e: i128, t: f64) -> [(&'static str, bool); 4] {
 }
 
 /// Every cell with every point; or a point that is strictly inside a cell's sphere.
-fn look_at_spheres(bed: &mut Bed, counts: &mut Counts) -> Result<(), String> {
-    let mesh = Loaded::load(&RightRules, bed.mesh, &bed.tables.lend());
+fn look_at_spheres(built: &mut BuiltMesh, counts: &mut Counts) -> Result<(), String> {
+    let mesh = Loaded::load(&RightRules, built.mesh, &built.tables.lend());
     for c in mesh.cells() {
         let corners = mesh.positions(c);
         for &p in mesh.points.iter().filter(|p| !corners.contains(p)) {
@@ -167,11 +167,11 @@ fn look_at_spheres(bed: &mut Bed, counts: &mut Counts) -> Result<(), String> {
     Ok(())
 }
 
-fn grow(bed: &mut Bed, calls: &[Call], counts: &mut Counts) -> Result<(), String> {
+fn grow(built: &mut BuiltMesh, calls: &[Call], counts: &mut Counts) -> Result<(), String> {
     for call in calls {
-        counts.add([(bed.make(call)?, true)]);
+        counts.add([(built.make(call)?, true)]);
     }
-    look_at_spheres(bed, counts)
+    look_at_spheres(built, counts)
 }
 
 /// Many meshes, looked at as they grow.
@@ -180,16 +180,16 @@ fn grown(build: &dyn Builder) -> Result<Counts, String> {
     for seed in 0..200 {
         let mut random = Random::new(seed);
         let (sides, places) = box_and_places(&mut random);
-        let mut bed = Bed::started(build, sides, places);
+        let mut built = BuiltMesh::started(build, sides, places);
         for _ in 0..6 {
-            let calls = [0; 3].map(|_| bed.call(&mut random));
-            grow(&mut bed, &calls, &mut counts)?;
+            let calls = [0; 3].map(|_| built.call(&mut random));
+            grow(&mut built, &calls, &mut counts)?;
         }
     }
     for tie in &NEAR_TIES {
         let places = Places::Spread(Spread::Anywhere);
-        let mut bed = Bed::started(build, tie.sides, places);
-        grow(&mut bed, &tie.nodes.map(Call::Insert), &mut counts)?;
+        let mut built = BuiltMesh::started(build, tie.sides, places);
+        grow(&mut built, &tie.nodes.map(Call::Insert), &mut counts)?;
     }
     Ok(counts)
 }
@@ -216,25 +216,25 @@ fn which_wrong_builds_break_it() {
 }
 
 /// The box 4, 4, 4 with nodes put in by the same answer for every cell.
-fn handed_in(answer: u8, nodes: &[Position]) -> Bed<'static> {
-    let mut bed = Bed::started(&Tuned, [4; 3], Places::Cluster([0; 3]));
+fn handed_in(answer: u8, nodes: &[Position]) -> BuiltMesh<'static> {
+    let mut built = BuiltMesh::started(&Tuned, [4; 3], Places::Cluster([0; 3]));
     for &p in nodes {
-        let bytes = vec![answer; bed.mesh.used as usize];
+        let bytes = vec![answer; built.mesh.used as usize];
         let answers = Answers::Given(&bytes);
-        bed.mesh = Tuned
-            .insert(bed.mesh, &mut bed.tables.lend(), answers, p)
+        built.mesh = Tuned
+            .insert(built.mesh, &mut built.tables.lend(), answers, p)
             .mesh;
     }
-    bed
+    built
 }
 
 #[test]
 fn by_answers_handed_in_it_need_not_hold() {
-    let mut bed = handed_in(0, &[[1, 2, 3]]);
-    let inside = look_at_spheres(&mut bed, &mut Counts::default()).unwrap_err();
+    let mut built = handed_in(0, &[[1, 2, 3]]);
+    let inside = look_at_spheres(&mut built, &mut Counts::default()).unwrap_err();
     assert!(inside.starts_with("[1, 2, 3] is inside the sphere of "));
     // The history of one-round: the correction has work for a node that then goes in by the sphere test.
-    let mut bed = handed_in(1, &[[1, 0, 0], [4, 1, 0]]);
-    let counts = bed.make(&Call::Insert([2, 0, 0])).unwrap_err();
+    let mut built = handed_in(1, &[[1, 0, 0], [4, 1, 0]]);
+    let counts = built.make(&Call::Insert([2, 0, 0])).unwrap_err();
     assert_eq!(counts, "[2, 0, 0]: 6 to 2");
 }

@@ -5,7 +5,7 @@ mod common;
 
 use std::collections::BTreeSet;
 
-use common::{each_breaks, each_holds, Bed, Counts};
+use common::{each_breaks, each_holds, BuiltMesh, Counts};
 use compare::nodes;
 use compare::Builder;
 use plain::loaded::Loaded;
@@ -20,7 +20,7 @@ fn small_room(random: &mut Random) -> Owned {
     Owned::with_room(20, random.pick(&[40, 90]))
 }
 
-impl Bed<'_> {
+impl BuiltMesh<'_> {
     /// Now and then one that is refused.
     fn node(&self, random: &mut Random) -> Position {
         let points = &self.tables.points[..3 * self.mesh.points as usize];
@@ -93,68 +93,68 @@ impl Look {
 }
 
 /// Neither the tables, nor marks beyond the used entries, nor any mark where it is refused.
-fn changes_nothing_else(bed: &Bed, look: &Look, _: &mut Random) -> bool {
+fn changes_nothing_else(built: &BuiltMesh, look: &Look, _: &mut Random) -> bool {
     let used = match look.is_accepted() {
-        true => bed.mesh.used as usize,
+        true => built.mesh.used as usize,
         false => 0,
     };
-    look.left == bed.tables && look.marks[used..] == look.before[used..]
+    look.left == built.tables && look.marks[used..] == look.before[used..]
 }
 
 /// The same report, or refused with the same number.
-fn answers_the_report(_: &Bed, look: &Look, _: &mut Random) -> bool {
+fn answers_the_report(_: &BuiltMesh, look: &Look, _: &mut Random) -> bool {
     let report = look.plainly.0.report();
     look.answer == report && look.answer.least.to_bits() == report.least.to_bits()
 }
 
 /// With too few it is refused 10, unless the insertion is refused; and nothing changes.
-fn needs_a_mark_an_entry(bed: &Bed, look: &Look, random: &mut Random) -> bool {
-    let count = random.index(bed.mesh.used as usize);
-    let short = bed.look(look.before[..count].to_vec(), look.p);
+fn needs_a_mark_an_entry(built: &BuiltMesh, look: &Look, random: &mut Random) -> bool {
+    let count = random.index(built.mesh.used as usize);
+    let short = built.look(look.before[..count].to_vec(), look.p);
     let refusal = match look.is_accepted() {
         true => 10,
         false => look.answer.refusal,
     };
     short.answer == Looked::refused(refusal)
         && short.marks == short.before
-        && short.left == bed.tables
+        && short.left == built.tables
 }
 
 /// With the marks of the look.
-fn goes_in_plainly(bed: &Bed, look: &Look, _: &mut Random) -> bool {
-    !look.is_accepted() || bed.insert_marked(&look.marks, look.p) == look.plainly
+fn goes_in_plainly(built: &BuiltMesh, look: &Look, _: &mut Random) -> bool {
+    !look.is_accepted() || built.insert_marked(&look.marks, look.p) == look.plainly
 }
 
 /// One byte is another, or they are too few: 14, and nothing changes.
-fn refuses_other_marks(bed: &Bed, look: &Look, random: &mut Random) -> bool {
+fn refuses_other_marks(built: &BuiltMesh, look: &Look, random: &mut Random) -> bool {
     let mut marks = look.marks.clone();
-    let place = random.index(bed.mesh.used as usize);
+    let place = random.index(built.mesh.used as usize);
     match random.one_in(4) {
         true => marks.truncate(place),
         false => marks[place] ^= random.pick(&[1, 2, 3, 254]),
     }
-    let refused = Inserted::refused(14, bed.mesh);
-    !look.is_accepted() || bed.insert_marked(&marks, look.p) == (refused, bed.tables.clone())
+    let refused = Inserted::refused(14, built.mesh);
+    !look.is_accepted() || built.insert_marked(&marks, look.p) == (refused, built.tables.clone())
 }
 
 /// Whatever the marks, an insertion is refused where the plain one is, with the same number.
-fn is_refused_alike(bed: &Bed, look: &Look, random: &mut Random) -> bool {
-    let marks = vec![random.below(3) as u8; random.pick(&[0, bed.mesh.used as usize])];
-    look.is_accepted() || bed.insert_marked(&marks, look.p) == look.plainly
+fn is_refused_alike(built: &BuiltMesh, look: &Look, random: &mut Random) -> bool {
+    let marks = vec![random.below(3) as u8; random.pick(&[0, built.mesh.used as usize])];
+    look.is_accepted() || built.insert_marked(&marks, look.p) == look.plainly
 }
 
 /// Of the corners of a marked cell no cell is left, and one with those of another cell has its number still; freed entries are not
 /// marked.
-fn marks_what_is_replaced(bed: &Bed, look: &Look, _: &mut Random) -> bool {
+fn marks_what_is_replaced(built: &BuiltMesh, look: &Look, _: &mut Random) -> bool {
     let (answer, tables) = &look.plainly;
-    let before: BTreeSet<_> = cells(bed.mesh, &bed.tables).into_iter().collect();
+    let before: BTreeSet<_> = cells(built.mesh, &built.tables).into_iter().collect();
     let left = cells(answer.mesh, tables).into_iter().collect();
     let replaced: Vec<usize> = before.difference(&left).map(|&(c, _)| c).collect();
-    let mut marks = look.marks[..bed.mesh.used as usize].iter().enumerate();
+    let mut marks = look.marks[..built.mesh.used as usize].iter().enumerate();
     !look.is_accepted() || marks.all(|(c, &mark)| mark == u8::from(replaced.contains(&c)))
 }
 
-type Law = fn(&Bed, &Look, &mut Random) -> bool;
+type Law = fn(&BuiltMesh, &Look, &mut Random) -> bool;
 
 const LAWS: [(&str, Law); 7] = [
     ("changes nothing else", changes_nothing_else),
@@ -167,16 +167,16 @@ const LAWS: [(&str, Law); 7] = [
 ];
 
 #[rustfmt::skip]
-fn situations(bed: &Bed, look: &Look) -> [(&'static str, bool); 10] {
+fn situations(built: &BuiltMesh, look: &Look) -> [(&'static str, bool); 10] {
     let Looked { refusal, before, after, .. } = look.answer;
-    let cells = bed.mesh.cells;
+    let cells = built.mesh.cells;
     [
         ("cells are removed by the correction", before > after),
         ("nothing is removed", refusal == 0 && before == after),
         ("every cell is replaced", after == cells),
         ("few cells are replaced", refusal == 0 && 3 * after < cells),
-        ("freed entries", refusal == 0 && bed.mesh.used > cells),
-        ("marks beyond the used entries", refusal == 0 && look.marks.len() > bed.mesh.used as usize),
+        ("freed entries", refusal == 0 && built.mesh.used > cells),
+        ("marks beyond the used entries", refusal == 0 && look.marks.len() > built.mesh.used as usize),
         ("outside", refusal == 4),
         ("taken", refusal == 5),
         ("points are full", refusal == 6),
@@ -185,23 +185,27 @@ fn situations(bed: &Bed, look: &Look) -> [(&'static str, bool); 10] {
 }
 
 /// Looks at a node, and says which law is broken; then a node goes in, this one or another.
-fn look_first(bed: &mut Bed, random: &mut Random, counts: &mut Counts) -> Result<(), &'static str> {
-    let p = bed.node(random);
-    let count = bed.mesh.used as usize + random.index(4);
+fn look_first(
+    built: &mut BuiltMesh,
+    random: &mut Random,
+    counts: &mut Counts,
+) -> Result<(), &'static str> {
+    let p = built.node(random);
+    let count = built.mesh.used as usize + random.index(4);
     let before = (0..count).map(|_| random.bits() as u8).collect();
-    let look = bed.look(before, p);
+    let look = built.look(before, p);
     for (law, holds) in LAWS {
-        if !holds(bed, &look, random) {
+        if !holds(built, &look, random) {
             return Err(law);
         }
     }
-    counts.add(situations(bed, &look));
-    let answers = nodes::answers(random, bed.mesh);
+    counts.add(situations(built, &look));
+    let answers = nodes::answers(random, built.mesh);
     let next = match random.below(3) {
-        0 => bed.insert_marked(&look.marks, p),
-        _ => bed.insert(Answers::Given(&answers), bed.node(random)),
+        0 => built.insert_marked(&look.marks, p),
+        _ => built.insert(Answers::Given(&answers), built.node(random)),
     };
-    bed.take(next);
+    built.take(next);
     Ok(())
 }
 
@@ -210,9 +214,9 @@ fn many_looks(build: &dyn Builder) -> Result<Counts, &'static str> {
     let mut counts = Counts::default();
     for seed in 0..150 {
         let mut random = Random::new(seed);
-        let mut bed = Bed::started(build, &mut random, small_room);
+        let mut built = BuiltMesh::started(build, &mut random, small_room);
         for _ in 0..16 {
-            look_first(&mut bed, &mut random, &mut counts)?;
+            look_first(&mut built, &mut random, &mut counts)?;
         }
     }
     Ok(counts)

@@ -6,7 +6,7 @@ mod common;
 
 use std::collections::BTreeSet;
 
-use common::{looked, right_builds, Bed, Counts};
+use common::{looked, right_builds, BuiltMesh, Counts};
 use compare::call::Call;
 use compare::entries::rearrange;
 use compare::guarded::GuardedTables;
@@ -35,7 +35,7 @@ struct Parked {
     points: u32,
 }
 
-impl Bed<'_> {
+impl BuiltMesh<'_> {
     fn loaded(&mut self) -> Loaded<'static> {
         Loaded::load(&RightRules, self.mesh, &self.tables.lend())
     }
@@ -128,10 +128,14 @@ fn situations(call: &Call, before: &Parked, after: &Parked) -> [(&'static str, b
 }
 
 /// Parks heads, makes an insertion, and says where a head is in another cell then, though its own was not replaced.
-fn insert_elsewhere(bed: &mut Bed, random: &mut Random, counts: &mut Counts) -> Result<(), String> {
-    let parked = bed.park(random);
-    let call = bed.insertion(random);
-    let replaced = bed.insert(&call);
+fn insert_elsewhere(
+    built: &mut BuiltMesh,
+    random: &mut Random,
+    counts: &mut Counts,
+) -> Result<(), String> {
+    let parked = built.park(random);
+    let call = built.insertion(random);
+    let replaced = built.insert(&call);
     if replaced.is_empty() {
         return Ok(()); // refused
     }
@@ -139,7 +143,7 @@ fn insert_elsewhere(bed: &mut Bed, random: &mut Random, counts: &mut Counts) -> 
         .iter()
         .filter(|head| !replaced.contains(&head.corners))
     {
-        let after = bed.locate(before.p);
+        let after = built.locate(before.p);
         let cell = |head: &Parked| (head.number, head.corners);
         if cell(&after) != cell(before) {
             let (p, one, other) = (before.p, cell(before), cell(&after));
@@ -155,17 +159,17 @@ fn parked_heads(build: &dyn Builder) -> Result<Counts, String> {
     let mut counts = Counts::default();
     for seed in 0..150 {
         let mut random = Random::new(seed);
-        let mut bed = Bed::started(build, &mut random, |_| Owned::with_room(40, 250));
+        let mut built = BuiltMesh::started(build, &mut random, |_| Owned::with_room(40, 250));
         for _ in 0..12 {
-            insert_elsewhere(&mut bed, &mut random, &mut counts)?;
+            insert_elsewhere(&mut built, &mut random, &mut counts)?;
         }
     }
     Ok(counts)
 }
 
 /// The cells by their corners, of which no two are the same.
-fn cells(bed: &mut Bed) -> BTreeSet<Corners> {
-    let mesh = bed.loaded();
+fn cells(built: &mut BuiltMesh) -> BTreeSet<Corners> {
+    let mesh = built.loaded();
     let cells: BTreeSet<_> = mesh
         .cells()
         .into_iter()
@@ -179,18 +183,18 @@ fn cells(bed: &mut Bed) -> BTreeSet<Corners> {
 fn any_order(build: &dyn Builder) -> Result<(), String> {
     for seed in 0..150 {
         let mut random = Random::new(seed);
-        let mut bed = Bed::started(build, &mut random, |_| Owned::with_room(40, 250));
+        let mut built = BuiltMesh::started(build, &mut random, |_| Owned::with_room(40, 250));
         for _ in 0..4 {
-            let call = bed.insertion(&mut random);
-            bed.insert(&call);
+            let call = built.insertion(&mut random);
+            built.insert(&call);
         }
-        let same = cells(&mut bed);
-        for one in bed.park(&mut random) {
+        let same = cells(&mut built);
+        for one in built.park(&mut random) {
             for _ in 0..20 {
-                rearrange(&mut random, &mut bed.mesh, &mut bed.tables);
+                rearrange(&mut random, &mut built.mesh, &mut built.tables);
             }
-            assert_eq!(cells(&mut bed), same);
-            let other = bed.locate(one.p);
+            assert_eq!(cells(&mut built), same);
+            let other = built.locate(one.p);
             if other.corners != one.corners {
                 let (p, one, other) = (one.p, one.corners, other.corners);
                 return Err(format!("{p:?} is in {one:?}, or in {other:?}"));

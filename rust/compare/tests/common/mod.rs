@@ -32,7 +32,7 @@ impl Counts {
 }
 
 /// The mesh that a build makes.
-pub struct Bed<'a> {
+pub struct BuiltMesh<'a> {
     pub build: &'a dyn Builder,
     pub sides: Position,
     pub spread: Spread,
@@ -40,16 +40,16 @@ pub struct Bed<'a> {
     pub tables: Owned,
 }
 
-impl<'a> Bed<'a> {
+impl<'a> BuiltMesh<'a> {
     pub fn started(
         build: &'a dyn Builder,
         random: &mut Random,
         room: impl FnOnce(&mut Random) -> Owned,
-    ) -> Bed<'a> {
+    ) -> BuiltMesh<'a> {
         let sides = nodes::sides(random);
         let mut tables = room(random);
         let mesh = build.start(sides, &mut tables.lend()).mesh;
-        Bed {
+        BuiltMesh {
             build,
             sides,
             spread: nodes::spread(random),
