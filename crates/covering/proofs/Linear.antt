@@ -161,7 +161,7 @@ linₑ a b c d q = a ⊗ rx q ⊕ b ⊗ ry q ⊕ c ⊗ rz q ⊕ d ⊗ rw′ q
 abbrev pub mix : ℕ → Place → ℕ → Place → Place
 mix m p k q = record { x = m * p .x + k * q .x; y = m * p .y + k * q .y; z = m * p .z + k * q .z; w = m * p .w + k * q .w }
 
-lin-mix : (a b c d : ℤ) (m : ℕ) (p : Place) (k : ℕ) (q : Place) → lin a b c d (mix m p k q) ≡ pos m *ℤ lin a b c d p +ℤ pos k *ℤ lin a b c d q
+pub lin-mix : (a b c d : ℤ) (m : ℕ) (p : Place) (k : ℕ) (q : Place) → lin a b c d (mix m p k q) ≡ pos m *ℤ lin a b c d p +ℤ pos k *ℤ lin a b c d q
 lin-mix a b c d m p k q =
     ring (linₑ A B C D (row (mx rx) (mx ry) (mx rz) (mx rw′))) (var 12 ⊗ linₑ A B C D (r₄ 0) ⊕ var 13 ⊗ linₑ A B C D (r₄ 1)) tt
     (env₄ (p ∷ q ∷ []) (a ∷ b ∷ c ∷ d ∷ pos m ∷ pos k ∷ []))

@@ -25,7 +25,7 @@ use Rattle.mesh.proofs.Checked.{same-position-of, same-position-yes}
 use Rattle.mesh.proofs.Valid.{valid-of}
 use Rattle.locate.specs.Locate.{holds}
 use Rattle.locate.specs.Inner.{axisCode, sideCode, sideCodes}
-use Rattle.locate.proofs.Codes.{code-at}
+use Rattle.locate.proofs.Codes.{side-code-at}
 use Rattle.cavity.specs.declared.Node.{Node}
 use Rattle.cavity.specs.declared.Extent.{Extent}
 use Rattle.cavity.specs.Answers.{Answers, saysYes, answersOf}
@@ -304,4 +304,4 @@ taken-is t np q h {codes} e =
     (λ x. let f = any-found np (λ k. samePosition (point t k) q) x in any-intro np (λ k. eqb (getD codes k 0) 0) (f .at) (f .below) (each (f .at) (f .below) ∙ f .passes))
   where
     each : (k : ℕ) → k < np → eqb (getD codes k 0) 0 ≡ samePosition (point t k) q
-    each k l = ap (λ x. eqb x 0) (ap (λ c. getD c k 0) e ∙ code-at (t .points) np q h k l) ∙ code-zero (point t k) q
+    each k l = ap (λ x. eqb x 0) (ap (λ c. getD c k 0) e ∙ side-code-at (t .points) np q h k l) ∙ code-zero (point t k) q

@@ -26,13 +26,13 @@ use Rattle.geometry.proofs.Algebra.{volume-cong, volume-split}
 use Rattle.geometry.proofs.ReadBack.{held-volume}
 use Rattle.mesh.specs.Tables.{Tables, none, pointIn, corner, cornerAt, side, freed, live, IsCell, tables}
 use Rattle.mesh.specs.Mesh.{Wall, low-x, low-y, low-z, along}
-use Rattle.mesh.specs.Inner.{fourAt, positionsOf, Cornered, Solid}
+use Rattle.mesh.specs.Inner.{fourAt, positionsOf, Cornered, volumeOfFour, Solid}
 use Rattle.mesh.proofs.Corners.{placed-cornered}
 use Rattle.mesh.proofs.FaceNumbers.{face-cell, face-opposite}
 use Rattle.mesh.proofs.Numbers.{byte≤, four-entry, four-corner, four-volume}
 use Rattle.mesh.proofs.Held.{cramer}
 use Rattle.mesh.proofs.Live.{live-of}
-use Rattle.locate.specs.Inner.{axisCode, sideCode, sideCodes, sharedBits, mayHold, volumeAt, noneNegative, holdsFour, Coded}
+use Rattle.locate.specs.Inner.{axisCode, sideCode, codesBelow, sideCodes, sharedBits, mayHold, volumeAt, noneNegative, holdsFour, Coded}
 use Rattle.locate.specs.Locate.{holds}
 
 -- ---- a cell that holds q has q in its bounding box
@@ -74,12 +74,32 @@ pub axis≤ : (a b : ℕ) → axisCode a b ≤ 3
 unfolding axisCode
 axis≤ a b = omega (arith, byte≤ (ltb a b), byte≤ (ltb b a))
 
-code< : (p q : Position) → sideCode p q < 64
-unfolding sideCode
-code< p q = omega (arith, axis≤ (p .x) (q .x), axis≤ (p .y) (q .y), axis≤ (p .z) (q .z))
+-- a number below 64 with the bits b
+pub record Bits (n : ℕ) (b : ℕ → Bool) : Type 0 where
+  pub below : n < 64
+  pub bit : (j : ℕ) → j < 6 → n / 2 ^ j % 2 ≡ boolByte (b j)
+
+pub six-bits : (b : ℕ → Bool) →
+    Bits ((boolByte (b 0) + 2 * boolByte (b 1)) + 4 * (boolByte (b 2) + 2 * boolByte (b 3)) + 16 * (boolByte (b 4) + 2 * boolByte (b 5))) b
+six-bits b =
+    let b₀ = byte≤ (b 0) in
+    let b₁ = byte≤ (b 1) in
+    let b₂ = byte≤ (b 2) in
+    let b₃ = byte≤ (b 3) in
+    let b₄ = byte≤ (b 4) in
+    let b₅ = byte≤ (b 5) in
+    record {
+      below = omega (arith, b₀, b₁, b₂, b₃, b₄, b₅);
+      bit = below-six (λ j. six / 2 ^ j % 2 ≡ boolByte (b j))
+          (omega (arith, b₀, b₁, b₂, b₃, b₄, b₅)) (omega (arith, b₀, b₁, b₂, b₃, b₄, b₅)) (omega (arith, b₀, b₁, b₂, b₃, b₄, b₅))
+          (omega (arith, b₀, b₁, b₂, b₃, b₄, b₅)) (omega (arith, b₀, b₁, b₂, b₃, b₄, b₅)) (omega (arith, b₀, b₁, b₂, b₃, b₄, b₅));
+    }
+  where
+    six : ℕ
+    six = (boolByte (b 0) + 2 * boolByte (b 1)) + 4 * (boolByte (b 2) + 2 * boolByte (b 3)) + 16 * (boolByte (b 4) + 2 * boolByte (b 5))
 
 -- bit j of a code
-beyond : ℕ → Position → Position → Bool
+unfoldable pub beyond : ℕ → Position → Position → Bool
 beyond zero p q = ltb (p .x) (q .x)
 beyond (suc zero) p q = ltb (q .x) (p .x)
 beyond (suc (suc zero)) p q = ltb (p .y) (q .y)
@@ -87,18 +107,9 @@ beyond (suc (suc (suc zero))) p q = ltb (q .y) (p .y)
 beyond (suc (suc (suc (suc zero)))) p q = ltb (p .z) (q .z)
 beyond (suc (suc (suc (suc (suc j))))) p q = ltb (q .z) (p .z)
 
-bit-is : (p q : Position) (j : ℕ) → j < 6 → sideCode p q / 2 ^ j % 2 ≡ boolByte (beyond j p q)
+pub code-bits : (p q : Position) → Bits (sideCode p q) (λ j. beyond j p q)
 unfolding sideCode axisCode beyond
-bit-is p q =
-    let x = byte≤ (ltb (p .x) (q .x)) in
-    let x′ = byte≤ (ltb (q .x) (p .x)) in
-    let y = byte≤ (ltb (p .y) (q .y)) in
-    let y′ = byte≤ (ltb (q .y) (p .y)) in
-    let z = byte≤ (ltb (p .z) (q .z)) in
-    let z′ = byte≤ (ltb (q .z) (p .z)) in
-    below-six (λ j. sideCode p q / 2 ^ j % 2 ≡ boolByte (beyond j p q))
-    (omega (arith, x, x′, y, y′, z, z′)) (omega (arith, x, x′, y, y′, z, z′)) (omega (arith, x, x′, y, y′, z, z′))
-    (omega (arith, x, x′, y, y′, z, z′)) (omega (arith, x, x′, y, y′, z, z′)) (omega (arith, x, x′, y, y′, z, z′))
+code-bits p q = six-bits (λ j. beyond j p q)
 
 and-bit : (a b j : ℕ) → bitAnd a b / 2 ^ j % 2 ≡ min (a / 2 ^ j % 2) (b / 2 ^ j % 2)
 and-bit a b j = ap (λ z. z % 2) (and-shr a b j) ∙ (and-mod (a / 2 ^ j) (b / 2 ^ j) 1 ∙ small (a / 2 ^ j % 2) (b / 2 ^ j % 2) (omega arith) (omega arith))
@@ -111,6 +122,18 @@ and-bit a b j = ap (λ z. z % 2) (and-shr a b j) ∙ (and-mod (a / 2 ^ j) (b / 2
     small zero (suc (suc y)) h k = absurd (omega arith)
     small (suc zero) (suc (suc y)) h k = absurd (omega arith)
     small (suc (suc x)) y h k = absurd (omega arith)
+
+pub and-bits : {m n : ℕ} {a b : ℕ → Bool} → Bits m a → Bits n b → Bits (bitAnd m n) (λ j. a j && b j)
+and-bits {m} {n} {a} {b} A B = record {
+  below = omega (arith, and-le-l m n, A .below);
+  bit = λ j l. and-bit m n j ∙ (ap₂ min (A .bit j l) (B .bit j l) ∙ both (a j) (b j));
+}
+  where
+    both : (x y : Bool) → min (boolByte x) (boolByte y) ≡ boolByte (x && y)
+    both true true = refl
+    both true false = refl
+    both false true = refl
+    both false false = refl
 
 some-bit : allBelow 64 (λ a. eqb a 0 || anyBelow 6 (λ j. eqb (a / 2 ^ j % 2) 1)) ≡ true
 unfolding allBelow anyBelow
@@ -142,6 +165,41 @@ shared-none a b c d h each =
     go j (inr (inr (inl e))) = omega (arith, e)
     go j (inr (inr (inr e))) = omega (arith, e)
 
+swap : {A B : Type 0} → A ⊎ B → B ⊎ A
+swap (inl a) = inr a
+swap (inr b) = inl b
+
+-- a bit that is set in all four
+pub record Shared (b : ℕ → ℕ → Bool) : Type 0 where
+  pub bit : ℕ
+  pub bit< : bit < 6
+  pub all : (i : ℕ) → i < 4 → b i bit ≡ true
+
+pub shared-bit : (codes k : List ℕ) (b : ℕ → ℕ → Bool) → ((i : ℕ) → i < 4 → Bits (getD codes (getD k i 0) 0) (b i)) → sharedBits codes k ≢ 0 → Shared b
+unfolding sharedBits
+shared-bit codes k b each d = go (find 6 All Some (λ j l. swap (find 4 (λ i. b i j ≡ false) (λ i. b i j ≡ true) (λ i h. swap (split (b i j))))))
+  where
+    code : ℕ → ℕ
+    code i = getD codes (getD k i 0) 0
+
+    All : ℕ → Type 0
+    All j = (i : ℕ) → i < 4 → b i j ≡ true
+
+    Some : ℕ → Type 0
+    Some j = (i : ℕ) × (i < 4) × (b i j ≡ false)
+
+    Off : ℕ → Type 0
+    Off j = (code 0 / 2 ^ j % 2 ≡ 0) ⊎ ((code 1 / 2 ^ j % 2 ≡ 0) ⊎ ((code 2 / 2 ^ j % 2 ≡ 0) ⊎ (code 3 / 2 ^ j % 2 ≡ 0)))
+
+    off : (j : ℕ) → j < 6 → Some j → Off j
+    off j l (i, h, e) =
+        below-four (λ i. code i / 2 ^ j % 2 ≡ 0 → Off j) inl (λ z. inr (inl z)) (λ z. inr (inr (inl z))) (λ z. inr (inr (inr z))) i h
+        (each i h .bit j l ∙ ap boolByte e)
+
+    go : ((j : ℕ) × (j < 6) × All j) ⊎ ((j : ℕ) → j < 6 → Some j) → Shared b
+    go (inl (j, l, a)) = record { bit = j; bit< = l; all = a }
+    go (inr none) = absurd (d (shared-none (code 0) (code 1) (code 2) (code 3) (each 0 (omega arith) .below) (λ j l. off j l (none j l))))
+
 -- ---- the law
 
 -- not all four corners are beyond q on one side of an axis
@@ -163,34 +221,16 @@ some-not s q h held =
     no-more : (w : Wall) → ((k : ℕ) → k < 4 → along w q < along w (s k)) → ⊥
     no-more w e = let m = least w s q h held (suc (along w q)) e in absurd (omega arith)
 
-swap : {A B : Type 0} → A ⊎ B → B ⊎ A
-swap (inl a) = inr a
-swap (inr b) = inl b
-
-bit-off : (b : Bool) → b ≡ false → boolByte b ≡ 0
-bit-off b e = rw e
-
 pub apart : (ps codes k : List ℕ) (q : Position) → Coded ps codes k q → sharedBits codes k ≢ 0 → holdsFour ps k q ≡ false
-unfolding sharedBits holdsFour
-apart ps codes k q C d = fails (holdsFour ps k q) (λ e. d (none-shared e))
+unfolding holdsFour
+apart ps codes k q C d =
+    fails (holdsFour ps k q) (λ e. by e (shared-bit codes k (λ i j. beyond j (s i) q) (λ i h. subst (λ n. Bits n (λ j. beyond j (s i) q)) (sym (C .code i h)) (code-bits (s i) q)) d))
   where
     s : ℕ → Position
     s i = pointIn ps (getD k i 0)
 
-    code : ℕ → ℕ
-    code i = getD codes (getD k i 0) 0
-
-    off : (j i : ℕ) → j < 6 → i < 4 → beyond j (s i) q ≡ false → code i / 2 ^ j % 2 ≡ 0
-    off j i hj hi e = ap (λ z. z / 2 ^ j % 2) (C .code i hi) ∙ (bit-is (s i) q j hj ∙ bit-off (beyond j (s i) q) e)
-
-    none-shared : holdsFour ps k q ≡ true → bitAnd (bitAnd (bitAnd (code 0) (code 1)) (code 2)) (code 3) ≡ 0
-    none-shared e = shared-none (code 0) (code 1) (code 2) (code 3) (subst (λ z. z < 64) (sym (C .code 0 (omega arith))) (code< (s 0) q)) (λ j l. go j l (find 4 (λ i. beyond j (s i) q ≡ false) (λ i. beyond j (s i) q ≡ true) (λ i h. swap (split (beyond j (s i) q)))))
-      where
-        go : (j : ℕ) → j < 6 → ((i : ℕ) × (i < 4) × (beyond j (s i) q ≡ false)) ⊎ ((i : ℕ) → i < 4 → beyond j (s i) q ≡ true) →
-            (code 0 / 2 ^ j % 2 ≡ 0) ⊎ ((code 1 / 2 ^ j % 2 ≡ 0) ⊎ ((code 2 / 2 ^ j % 2 ≡ 0) ⊎ (code 3 / 2 ^ j % 2 ≡ 0)))
-        go j l (inl r) = below-four (λ i. code i / 2 ^ j % 2 ≡ 0 → (code 0 / 2 ^ j % 2 ≡ 0) ⊎ ((code 1 / 2 ^ j % 2 ≡ 0) ⊎ ((code 2 / 2 ^ j % 2 ≡ 0) ⊎ (code 3 / 2 ^ j % 2 ≡ 0))))
-            inl (λ z. inr (inl z)) (λ z. inr (inr (inl z))) (λ z. inr (inr (inr z))) (r .0) (r .1) (off j (r .0) l (r .1) (r .2))
-        go j l (inr all) = absurd (some-not s q (C .positive) (λ i h. leZ-true (pos 0) _ (all-at 4 (λ i. leZ (pos 0) (volume (replaced s i q))) e i h)) j l all)
+    by : holdsFour ps k q ≡ true → Shared (λ i j. beyond j (s i) q) → ⊥
+    by e r = some-not s q (C .positive) (λ i h. leZ-true (pos 0) _ (all-at 4 (λ i. leZ (pos 0) (volume (replaced s i q))) e i h)) (r .bit) (r .bit<) (r .all)
 
 -- ---- the four volumes as the code holds them
 
@@ -237,25 +277,30 @@ module _ (v : Volumes) where
 
 -- ---- the codes, point by point
 
-pub codes-more : (ps : List ℕ) (v : ℕ) (q : Position) → v < 1024 → set (sideCodes ps v q) v (sideCode (pointIn ps v) q) ≡ sideCodes ps (v + 1) q
-unfolding sideCodes
-codes-more ps v q h = set-tabulate 1024 (λ k. cond (ltb k v) (code k) 0) v (code v) h ∙ ap (tabulate 1024) (λ i k. at k (ℕ-discrete v k) i)
+pub codes-more : (f : ℕ → ℕ) (v : ℕ) → v < 1024 → set (codesBelow v f) v (f v) ≡ codesBelow (v + 1) f
+unfolding codesBelow
+codes-more f v h = set-tabulate 1024 (λ k. cond (ltb k v) (f k) 0) v (f v) h ∙ ap (tabulate 1024) (λ i k. at k (ℕ-discrete v k) i)
   where
-    code : ℕ → ℕ
-    code k = sideCode (pointIn ps k) q
-
-    at : (k : ℕ) → Dec (v ≡ k) → cond (eqb v k) (code v) (cond (ltb k v) (code k) 0) ≡ cond (ltb k (v + 1)) (code k) 0
-    at k (yes e) = rw (eq-eqb v k e, lt-ltb k (v + 1) (omega arith)) (ap code e)
-    at k (no d) = rw (ne-eqb v k d) (ap (λ b. cond b (code k) 0) (bool-ext (ltb k v) (ltb k (v + 1))
+    at : (k : ℕ) → Dec (v ≡ k) → cond (eqb v k) (f v) (cond (ltb k v) (f k) 0) ≡ cond (ltb k (v + 1)) (f k) 0
+    at k (yes e) = rw (eq-eqb v k e, lt-ltb k (v + 1) (omega arith)) (ap f e)
+    at k (no d) = rw (ne-eqb v k d) (ap (λ b. cond b (f k) 0) (bool-ext (ltb k v) (ltb k (v + 1))
         (λ e. lt-ltb k (v + 1) (omega (arith, ltb-true k v e))) (λ e. lt-ltb k v (omega (arith, ltb-true k (v + 1) e)))))
 
-pub codes-length : (ps : List ℕ) (np : ℕ) (q : Position) → length (sideCodes ps np q) ≡ 1024
-unfolding sideCodes
-codes-length ps np q = tabulate-length 1024 (λ v. cond (ltb v np) (sideCode (pointIn ps v) q) 0)
+pub codes-length : (np : ℕ) (f : ℕ → ℕ) → length (codesBelow np f) ≡ 1024
+unfolding codesBelow
+codes-length np f = tabulate-length 1024 (λ v. cond (ltb v np) (f v) 0)
 
-pub code-at : (ps : List ℕ) (np : ℕ) (q : Position) → np ≤ 1024 → (v : ℕ) → v < np → getD (sideCodes ps np q) v 0 ≡ sideCode (pointIn ps v) q
+code-at : (np : ℕ) (f : ℕ → ℕ) → np ≤ 1024 → (v : ℕ) → v < np → getD (codesBelow np f) v 0 ≡ f v
+unfolding codesBelow
+code-at np f h v l = tabulate-at 1024 (λ v. cond (ltb v np) (f v) 0) v 0 (omega arith) ∙ rw (lt-ltb v np l)
+
+pub side-codes-length : (ps : List ℕ) (np : ℕ) (q : Position) → length (sideCodes ps np q) ≡ 1024
 unfolding sideCodes
-code-at ps np q h v l = tabulate-at 1024 (λ v. cond (ltb v np) (sideCode (pointIn ps v) q) 0) v 0 (omega arith) ∙ rw (lt-ltb v np l)
+side-codes-length ps np q = codes-length np (λ v. sideCode (pointIn ps v) q)
+
+pub side-code-at : (ps : List ℕ) (np : ℕ) (q : Position) → np ≤ 1024 → (v : ℕ) → v < np → getD (sideCodes ps np q) v 0 ≡ sideCode (pointIn ps v) q
+unfolding sideCodes
+side-code-at ps np q = code-at np (λ v. sideCode (pointIn ps v) q)
 
 -- the volumes that a cell's four corners give are its sides
 pub side-of-four : (ps cs ns : List ℕ) (c i : ℕ) (q : Position) → i < 4 →
@@ -287,62 +332,66 @@ holder-cell t p {n} {c} h e = record { below = h; lives = holds-live t p c e }
 
 -- ---- an entry of solid tables
 
-module _ (ps cs : List ℕ) (np n : ℕ) (q : Position) (S : Solid ps cs np n) (c : ℕ) (c< : IsCell (tables [] cs []) n c) where
-  corner< : (i : ℕ) → i < 4 → getD (fourAt cs c) i 0 < np
-  corner< i h = subst (λ m. m < np) (sym (four-entry cs c i h)) (S .below c i c< h)
-
-  coded : {codes k : List ℕ} → codes ≡ sideCodes ps np q → k ≡ fourAt cs c → Coded ps codes k q
-  coded {codes} ec ek =
-      subst (λ k. Coded ps codes k q) (sym ek) (subst (λ codes. Coded ps codes (fourAt cs c) q) (sym ec)
-      record {
-        corners = placed-cornered (S .placed) corner<;
-        code< = λ i h. subst (λ m. getD (fourAt cs c) i 0 < m) (sym (codes-length ps np q)) (omega (arith, S .placed .points-few, corner< i h));
-        code = λ i h. code-at ps np q (S .placed .points-few) (getD (fourAt cs c) i 0) (corner< i h);
-        positive = subst (λ z. pos 0 <ℤ z) (sym (four-volume ps cs c)) (S .positive c c<);
-      })
-
-  -- its corners share a bit
-  ruled-out : (ns : List ℕ) {codes k : List ℕ} → codes ≡ sideCodes ps np q → k ≡ fourAt cs c → sharedBits codes k ≢ 0 →
-      holds (tables ps cs ns) q c ≡ false
-  unfolding live freed corner
-  ruled-out ns ec ek d = sym (holds-is ps cs ns c q (c< .lives) ek) ∙ apart ps _ _ q (coded ec ek) d
-
 -- what the first corner of an entry tells: a cell's points are few, so 65,535 is that of a freed entry alone
 entry-cell : (ps cs ns : List ℕ) {n c : ℕ} → c < n → getD (fourAt cs c) 0 0 ≢ none → IsCell (tables ps cs ns) n c
 entry-cell ps cs ns {n} {c} h d =
     record { below = h; lives = live-of (tables ps cs ns) c 0 (omega arith) (λ e. d (four-corner (tables ps cs ns) c 0 (omega arith) ∙ e)) }
 
-module _ (ps cs : List ℕ) (np n : ℕ) (q : Position) (S : Solid ps cs np n) (c : ℕ) (c< : c < n) where
-  entry-freed : (ns : List ℕ) → getD (fourAt cs c) 0 0 ≡ none → live (tables ps cs ns) c ≡ false
+module _ (ps cs : List ℕ) (np n : ℕ) (S : Solid ps cs np n) (c : ℕ) where
+  corner< : IsCell (tables [] cs []) n c → (i : ℕ) → i < 4 → getD (fourAt cs c) i 0 < np
+  corner< c< i h = subst (λ m. m < np) (sym (four-entry cs c i h)) (S .below c i c< h)
+
+  entry-freed : c < n → (ns : List ℕ) → getD (fourAt cs c) 0 0 ≡ none → live (tables ps cs ns) c ≡ false
   unfolding live freed corner
-  entry-freed ns e = fails (live (tables ps cs ns) c) (λ l. by (corner< ps cs np n q S c record { below = c<; lives = l } 0 (omega arith)))
+  entry-freed c< ns e = fails (live (tables ps cs ns) c) (λ l. by (corner< record { below = c<; lives = l } 0 (omega arith)))
     where
       by : getD (fourAt cs c) 0 0 < np → ⊥
       by h = omega (arith, e, S .placed .points-few)
 
-  module _ {codes k : List ℕ} (ec : codes ≡ sideCodes ps np q) (ek : k ≡ fourAt cs c) where
+  -- the corners that the code has of it
+  module _ (c< : c < n) {k : List ℕ} (ek : k ≡ fourAt cs c) where
     first-is : getD k 0 0 ≡ getD (fourAt cs c) 0 0
     first-is = ap (λ k. getD k 0 0) ek
 
-    pub codes-there : getD k 0 0 ≢ none → (i : ℕ) → i < 4 → getD k i 0 < length codes
-    codes-there d = coded ps cs np n q S c (entry-cell [] cs [] c< (λ z. d (first-is ∙ z))) ec ek .code<
+    pub cell-at : (qs ns : List ℕ) → getD k 0 0 ≢ none → IsCell (tables qs cs ns) n c
+    cell-at qs ns d = entry-cell qs cs ns c< (λ z. d (first-is ∙ z))
 
-    first-corner : mayHold codes k ≡ true → getD (fourAt cs c) 0 0 ≢ none
-    unfolding mayHold
-    first-corner e z = eqb-false (getD k 0 0) none (not-true (eqb (getD k 0 0) none) (and-left _ _ e)) (first-is ∙ z)
+    corners-below : getD k 0 0 ≢ none → (i : ℕ) → i < 4 → getD k i 0 < np
+    corners-below d i h = subst (λ k. getD k i 0 < np) (sym ek) (corner< (cell-at [] [] d) i h)
 
-    pub may-hold-cell : (ns : List ℕ) → mayHold codes k ≡ true → IsCell (tables ps cs ns) n c
-    may-hold-cell ns e = entry-cell ps cs ns c< (first-corner e)
+    pub cornered-at : getD k 0 0 ≢ none → Cornered ps k
+    cornered-at d = placed-cornered (S .placed) (corners-below d)
 
-    pub may-hold-coded : mayHold codes k ≡ true → Coded ps codes k q
-    may-hold-coded e = coded ps cs np n q S c (entry-cell [] cs [] c< (first-corner e)) ec ek
+    pub positive-at : getD k 0 0 ≢ none → pos 0 <ℤ volumeOfFour ps k
+    positive-at d = subst (λ k. pos 0 <ℤ volumeOfFour ps k) (sym ek) (subst (λ z. pos 0 <ℤ z) (sym (four-volume ps cs c)) (S .positive c (cell-at [] [] d)))
 
-    pub may-not-hold : (ns : List ℕ) → mayHold codes k ≡ false → holds (tables ps cs ns) q c ≡ false
-    unfolding mayHold holds
-    may-not-hold ns e = go (ℕ-discrete (getD k 0 0) none)
-      where
-        go : Dec (getD k 0 0 ≡ none) → holds (tables ps cs ns) q c ≡ false
-        go (yes z) = rw (entry-freed ns (sym first-is ∙ z))
-        go (no d) =
-            ruled-out ps cs np n q S c (entry-cell [] cs [] c< (λ z. d (first-is ∙ z))) ns ec ek
-            (eqb-false (sharedBits codes k) 0 (sym (ap (λ b. not b && eqb (sharedBits codes k) 0) (ne-eqb (getD k 0 0) none d)) ∙ e))
+    -- and the points' codes
+    module _ (codes : List ℕ) where
+      pub codes-there : length codes ≡ 1024 → getD k 0 0 ≢ none → (i : ℕ) → i < 4 → getD k i 0 < length codes
+      codes-there e d i h = omega (arith, e, S .placed .points-few, corners-below d i h)
+
+      pub coded-at : (f : ℕ → ℕ) → codes ≡ codesBelow np f → getD k 0 0 ≢ none → (i : ℕ) → i < 4 → getD codes (getD k i 0) 0 ≡ f (getD k i 0)
+      coded-at f e d i h = ap (λ codes. getD codes (getD k i 0) 0) e ∙ code-at np f (S .placed .points-few) (getD k i 0) (corners-below d i h)
+
+      pub may-hold-first : mayHold codes k ≡ true → getD k 0 0 ≢ none
+      unfolding mayHold
+      may-hold-first e = eqb-false (getD k 0 0) none (not-true (eqb (getD k 0 0) none) (and-left _ _ e))
+
+      -- an entry that the codes rule out is freed, or its corners share a bit
+      pub ruled-out : (ns : List ℕ) → mayHold codes k ≡ false → (live (tables ps cs ns) c ≡ false) ⊎ ((getD k 0 0 ≢ none) × (sharedBits codes k ≢ 0))
+      unfolding mayHold
+      ruled-out ns e = go (ℕ-discrete (getD k 0 0) none)
+        where
+          go : Dec (getD k 0 0 ≡ none) → (live (tables ps cs ns) c ≡ false) ⊎ ((getD k 0 0 ≢ none) × (sharedBits codes k ≢ 0))
+          go (yes z) = inl (entry-freed c< ns (sym first-is ∙ z))
+          go (no d) = inr (d, eqb-false (sharedBits codes k) 0 (sym (ap (λ b. not b && eqb (sharedBits codes k) 0) (ne-eqb (getD k 0 0) none d)) ∙ e))
+
+      pub may-not-hold : (q : Position) → codes ≡ sideCodes ps np q → (ns : List ℕ) → mayHold codes k ≡ false → holds (tables ps cs ns) q c ≡ false
+      unfolding holds sideCodes
+      may-not-hold q ec ns e = go (ruled-out ns e)
+        where
+          go : (live (tables ps cs ns) c ≡ false) ⊎ ((getD k 0 0 ≢ none) × (sharedBits codes k ≢ 0)) → holds (tables ps cs ns) q c ≡ false
+          go (inl l) = rw l
+          go (inr (d, s)) =
+              sym (holds-is ps cs ns c q (cell-at ps ns d .lives) ek) ∙
+              apart ps codes k q record { code = coded-at (λ v. sideCode (pointIn ps v) q) ec d; positive = positive-at d } s

@@ -20,7 +20,7 @@ fn axis_code(a: u32, b: u32) -> u8
     ((a < b) as u8) + 2 * ((b < a) as u8)
 }
 
-fn side_code(p: Position, q: Position) -> u8
+pub fn side_code(p: Position, q: Position) -> u8
     ensures { λ r. ⌜ r ≡ sideCode p q ⌝ }
 {
     axis_code(p.x, q.x) + 4 * axis_code(p.y, q.y) + 16 * axis_code(p.z, q.z)

@@ -56,12 +56,12 @@ not-refused m t w e =
     rw (le-ltb (pointCapacity t) 8 (M .pointCap≥), le-ltb (cellCapacity t w) 6 (M .cellCap≥), side-yes (m .x) (M .sideX), side-yes (m .y) (M .sideY), side-yes (m .z) (M .sideZ), e)
 
 -- a call that answers a cell: the mesh check passed, the position is in the box, and the cell is the definition's
-record Answered (m : Mesh) (t : Tables) (w : ℕ) (q : Position) (c : ℕ) : Type 0 where
-  check : isMesh m t w ≡ true
-  box : inBox (m .x) (m .y) (m .z) q ≡ true
-  cell : firstHolder t (m .used) q ≡ c
+pub record Answered (m : Mesh) (t : Tables) (w : ℕ) (q : Position) (c : ℕ) : Type 0 where
+  pub check : isMesh m t w ≡ true
+  pub box : inBox (m .x) (m .y) (m .z) q ≡ true
+  pub cell : firstHolder t (m .used) q ≡ c
 
-answered : (m : Mesh) (t : Tables) (w : ℕ) (q : Position) (c : ℕ) → locateCall m t w q ≡ Cell c → Answered m t w q c
+pub answered : (m : Mesh) (t : Tables) (w : ℕ) (q : Position) (c : ℕ) → locateCall m t w q ≡ Cell c → Answered m t w q c
 answered m t w q c f = go (ℕ-discrete (meshRefusal m t w false) 0) (split (inBox (m .x) (m .y) (m .z) q))
   where
     never : {k : ℕ} {A : Type 0} → NotLocated k ≡ locateCall m t w q → A

@@ -2,10 +2,11 @@ use Rattle.cavity_base.proofs.find_base.Statement.{statement}
 use Rattle.cavity_base.proofs.find_base.Tie as tie
 use Prim.Native.Nat.{_-_, _≤_}
 use mathlib.Core.Logic.{⊎-elim}
-use mathlib.Core.Path.{_≡_, sym, _∙_}
+use mathlib.Core.Path.{_≡_, sym, ap, _∙_}
 use native.Mathlib.Omega.{arith}
+use lib.ListN.{length}
 use Rattle.mesh.specs.Tables.{tables}
-use Rattle.locate.proofs.Codes.{codes-there, may-hold-cell, may-not-hold}
+use Rattle.locate.proofs.Codes.{side-codes-length, codes-there, may-hold-first, cell-at, may-not-hold}
 use Rattle.cavity.specs.Answers.{answersOf}
 use Rattle.cavity.specs.Inner.Growth.{Scanned}
 use Rattle.mesh.proofs.Reading.{has-corners, solid, cells-few}
@@ -27,13 +28,15 @@ four-at-requires : tie.Need-four-at-requires Inv-loop μ-loop
 four-at-requires c κs = let s = c .before .before .before .before .before .before .before .before .before in has-corners (s .pre .0 .mesh) _ (omega arith)
 
 may-hold-requires : tie.Need-may-hold-requires Inv-loop μ-loop
-may-hold-requires c κs = let p = start c .pre in codes-there _ _ _ _ _ (solid (p .0 .mesh)) _ (omega arith) (p .1) (c .four-at .ensures)
+may-hold-requires c κs = let p = start c .pre in codes-there _ _ _ _ (solid (p .0 .mesh)) _ (omega arith) (c .four-at .ensures) (start c .args .codes .now) (ap length (p .1) ∙ side-codes-length _ _ _)
 
 try-base-requires : tie.Need-try-base-requires Inv-loop μ-loop
 try-base-requires c κs =
     let f = c .before .before .before .before in
     let p = start f .pre in
-    (p .0, may-hold-cell _ _ _ _ _ (solid (p .0 .mesh)) _ (omega arith) (p .1) (f .four-at .ensures) _ (sym (c .before .before .before .may-hold .ensures) ∙ c .before .before .if1 .taken), f .before .before .loop .inv .1)
+    let S = solid (p .0 .mesh) in
+    let first = may-hold-first _ _ _ _ S _ (omega arith) (f .four-at .ensures) _ (sym (c .before .before .before .may-hold .ensures) ∙ c .before .before .if1 .taken) in
+    (p .0, cell-at _ _ _ _ S _ (omega arith) (f .four-at .ensures) _ _ first, f .before .before .loop .inv .1)
 
 add-c : tie.Need-add-c Inv-loop μ-loop
 add-c c = omega (arith, cells-few (start (c .before .before) .pre .0 .mesh))
@@ -51,7 +54,7 @@ loop-again c =
       ⊎-elim
           (λ w. scanned-same (w .8) (w .9) (w .10) (w .3 .ensures))
           (λ w. scanned-same (w .1) (w .2) (w .3) (scan-past (p .0 .mesh) _ (p .0 .position) (l .inv .1)
-          (may-not-hold _ _ _ _ _ (solid (p .0 .mesh)) _ (omega arith) (p .1) (f .four-at .ensures) _ (sym (c .before .may-hold .ensures) ∙ w .0 .left))))
+          (may-not-hold _ _ _ _ (solid (p .0 .mesh)) _ (omega arith) (f .four-at .ensures) _ _ (p .1) _ (sym (c .before .may-hold .ensures) ∙ w .0 .left))))
           (c .if1 .came),
     )
 

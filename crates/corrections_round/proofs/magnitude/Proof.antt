@@ -1,6 +1,6 @@
 use native.Mathlib.Omega.{arith}
 use borrow.Author.Needs.{needs}
-use Rattle.corrections_round.proofs.Words.{negated-fits, size-negated, negated-casts, itself-casts}
+use Rattle.arith.proofs.Machine.{negated-fits, size-negated, negated-casts, itself-casts}
 use Rattle.corrections_round.proofs.magnitude.Statement.{statement}
 use Rattle.corrections_round.proofs.magnitude.Tie as tie
 

@@ -1,21 +1,24 @@
+use mathlib.Core.Path.{ap}
 use native.Mathlib.Omega.{arith}
+use lib.IntN.{natAbs}
+use Rattle.arith.proofs.Machine.{back-64}
 use Rattle.arith.proofs.Magnitude.{abs-parts}
 use Rattle.arith.proofs.Order.{arithℤ}
-use Rattle.corrections_round.proofs.Words.{size-word, quotient-fits, opposite-fits, nearest-below, nearest-not-below}
+use Rattle.corrections_round.proofs.Words.{quotient-fits, opposite-fits, nearest-below, nearest-not-below}
 use Rattle.corrections_round.proofs.round.Statement.{statement}
 use Rattle.corrections_round.proofs.round.Tie as tie
 
 magnitude-requires : tie.Need-magnitude-requires
-magnitude-requires c κs = omega (arith, size-word (c .args .sum) (omega arith))
+magnitude-requires c κs = omega (arith, ap natAbs (back-64 (c .args .sum) (omega arith)))
 
 magnitude-requires-2 : tie.Need-magnitude-requires-2
-magnitude-requires-2 c κs = omega (arith, size-word (c .before .args .volume) (omega arith))
+magnitude-requires-2 c κs = omega (arith, ap natAbs (back-64 (c .before .args .volume) (omega arith)))
 
 quotient-requires : tie.Need-quotient-requires
 quotient-requires c κs =
     let s = c .before .before in
-    let e = size-word (s .args .sum) (omega arith) in
-    let k = size-word (s .args .volume) (omega arith) in
+    let e = ap natAbs (back-64 (s .args .sum) (omega arith)) in
+    let k = ap natAbs (back-64 (s .args .volume) (omega arith)) in
     (omega arith, omega (arithℤ, abs-parts (s .args .volume)), omega arith)
 
 cast-result : tie.Need-cast-result

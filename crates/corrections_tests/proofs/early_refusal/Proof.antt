@@ -3,7 +3,7 @@ use native.Mathlib.Omega.{arith}
 use lib.ListN.{length}
 use Rattle.arith.proofs.Flags.{test-failed, test-passed}
 use Rattle.mesh.specs.Tables.{tables}
-use Rattle.locate.proofs.Codes.{codes-length}
+use Rattle.locate.proofs.Codes.{side-codes-length}
 use Rattle.insertion.proofs.Admission.{taken-is}
 use Rattle.corrections.proofs.Refusals.{early-outside, early-taken, early-wrong}
 use borrow.Author.Needs.{needs}
@@ -26,7 +26,7 @@ slice-aggregate-some-zero : tie.Need-slice-aggregate-some-zero
 slice-aggregate-some-zero c = search needs
 
 some-zero-requires : tie.Need-some-zero-requires
-some-zero-requires c κs = omega (arith, ap length (c .before .side-codes .ensures) ∙ codes-length _ _ _, c .before .before .before .before .before .before .pre .0)
+some-zero-requires c κs = omega (arith, ap length (c .before .side-codes .ensures) ∙ side-codes-length _ _ _, c .before .before .before .before .before .before .pre .0)
 
 returns-2 : tie.Need-returns-2
 returns-2 c =

@@ -4,7 +4,7 @@ use lib.ListN.{length}
 use borrow.Author.Tests.{eq-eqb, ne-eqb}
 use Rattle.arith.proofs.Flags.{test-failed, test-passed}
 use Rattle.mesh.specs.Tables.{pointCapacity, tables}
-use Rattle.locate.proofs.Codes.{codes-length}
+use Rattle.locate.proofs.Codes.{side-codes-length}
 use Rattle.insertion.proofs.Admission.{outside-box, point-taken, points-full, free-place, taken-is}
 use borrow.Author.Needs.{needs}
 use Rattle.insertion_tests.proofs.point_tests.Statement.{statement}
@@ -20,7 +20,7 @@ cast-np : tie.Need-cast-np
 cast-np c = search needs
 
 some-zero-requires : tie.Need-some-zero-requires
-some-zero-requires c κs = omega (arith, ap length (c .before .before .before .before .before .pre .1) ∙ codes-length _ _ _, c .before .before .before .before .before .pre .0)
+some-zero-requires c κs = omega (arith, ap length (c .before .before .before .before .before .pre .1) ∙ side-codes-length _ _ _, c .before .before .before .before .before .pre .0)
 
 returns-2 : tie.Need-returns-2
 returns-2 c = λ cs ns. point-taken _ _ _ (test-passed (c .before .before .before .before .in-box .ensures) (c .before .before .before .if1 .left)) (sym ((c .before .some-zero .ensures) ∙ taken-is (tables (c .before .before .before .before .before .before .before .args .points .now) cs ns) (c .before .before .before .before .before .before .before .args .mesh .points) (c .before .before .before .before .before .before .before .args .q) (c .before .before .before .before .before .before .before .pre .0) (c .before .before .before .before .before .before .before .pre .1)) ∙ c .if2 .taken)

@@ -1,15 +1,15 @@
 use mathlib.Core.Bool.{true}
 use mathlib.Core.List.{[]}
-use mathlib.Core.Logic.{⊎-elim}
+use mathlib.Core.Logic.{_≢_, ⊎-elim}
 use Prim.Native.Nat.{_-_, _≤_}
 use native.Mathlib.Omega.{arith}
 use mathlib.Core.Path.{_≡_, sym, ap, _∙_, subst}
-use lib.ListN.{length}
+use lib.ListN.{length, getD}
 use borrow.Author.Needs.{needs}
-use Rattle.mesh.specs.Tables.{IsCell, tables}
+use Rattle.mesh.specs.Tables.{none, IsCell, tables}
 use Rattle.locate.specs.Locate.{holds}
 use Rattle.locate.specs.Inner.{holdsFour}
-use Rattle.locate.proofs.Codes.{codes-length, codes-there, may-hold-cell, may-hold-coded, may-not-hold, holds-is}
+use Rattle.locate.proofs.Codes.{side-codes-length, codes-there, may-hold-first, cell-at, cornered-at, may-not-hold, holds-is}
 use Rattle.locate.proofs.First.{CandidateAfter, candidate-none, candidate-more, candidate-earlier, candidate-is}
 use Rattle.locate_first.proofs.first_holder.Statement.{statement}
 use Rattle.locate_first.proofs.first_holder.Tie as tie
@@ -23,16 +23,24 @@ abbrev μ-loop : tie.MeasureT-loop
 abbrev start : tie.After-four-at Inv-loop μ-loop → tie.Start Inv-loop μ-loop
 start c = c .before .before .before .before .before .before
 
+first-corner : (c : tie.After-may-hold Inv-loop μ-loop) → c .may-hold .result ≡ true → getD (c .before .before .four-at .result) 0 0 ≢ none
+first-corner c e =
+    let f = c .before .before in
+    may-hold-first _ _ _ _ (start f .pre .0) _ (omega arith) (f .four-at .ensures) _ (sym (c .may-hold .ensures) ∙ e)
+
 -- the loop's entry is a cell
 entry : (c : tie.After-may-hold Inv-loop μ-loop) → let f = c .before .before in let a = start f .args in
     c .may-hold .result ≡ true → IsCell (tables (a .points .now) (a .corners .now) []) (a .n) (f .before .before .loop .c)
 entry c e =
     let f = c .before .before in
-    may-hold-cell _ _ _ _ _ (start f .pre .0) _ (omega arith) (f .before .before .before .side-codes .ensures) (f .four-at .ensures) [] (sym (c .may-hold .ensures) ∙ e)
+    cell-at _ _ _ _ (start f .pre .0) _ (omega arith) (f .four-at .ensures) _ [] (first-corner c e)
 
 is-held : (c : tie.After-may-hold Inv-loop μ-loop) → let f = c .before .before in let a = start f .args in
     c .may-hold .result ≡ true → holdsFour (a .points .now) (f .four-at .result) (a .q) ≡ holds (tables (a .points .now) (a .corners .now) []) (a .q) (f .before .before .loop .c)
 is-held c e = let f = c .before .before in let a = start f .args in holds-is (a .points .now) (a .corners .now) [] _ (a .q) (entry c e .lives) (f .four-at .ensures)
+
+lengthy : (c : tie.After-four-at Inv-loop μ-loop) → length (c .before .before .before .side-codes .result) ≡ 1024
+lengthy c = ap length (c .before .before .before .side-codes .ensures) ∙ side-codes-length _ _ _
 
 side-codes-requires : tie.Need-side-codes-requires Inv-loop μ-loop
 side-codes-requires c κs = let p = c .before .before .pre .0 .placed in (p .points-few, p .points-fit)
@@ -44,15 +52,15 @@ four-at-requires : tie.Need-four-at-requires Inv-loop μ-loop
 four-at-requires c κs = search needs
 
 slice-aggregate-may-hold : tie.Need-slice-aggregate-may-hold Inv-loop μ-loop
-slice-aggregate-may-hold c = sym (ap length (c .before .before .before .before .side-codes .ensures) ∙ codes-length _ _ _)
+slice-aggregate-may-hold c = sym (lengthy (c .before))
 
 may-hold-requires : tie.Need-may-hold-requires Inv-loop μ-loop
-may-hold-requires c κs = let f = c .before in codes-there _ _ _ _ _ (start f .pre .0) _ (omega arith) (f .before .before .before .side-codes .ensures) (f .four-at .ensures)
+may-hold-requires c κs = let f = c .before in codes-there _ _ _ _ (start f .pre .0) _ (omega arith) (f .four-at .ensures) (f .before .before .before .side-codes .result) (lengthy f)
 
 cell-holds-requires : tie.Need-cell-holds-requires Inv-loop μ-loop
 cell-holds-requires c κs =
     let f = c .before .before .before in
-    (may-hold-coded _ _ _ _ _ (start f .pre .0) _ (omega arith) (f .before .before .before .side-codes .ensures) (f .four-at .ensures) (sym (c .before .may-hold .ensures) ∙ c .if1 .taken) .corners, start f .pre .1)
+    (cornered-at _ _ _ _ (start f .pre .0) _ (omega arith) (f .four-at .ensures) (first-corner (c .before) (c .if1 .taken)), start f .pre .1)
 
 earlier-requires : tie.Need-earlier-requires Inv-loop μ-loop
 earlier-requires c κs = search needs
@@ -75,7 +83,7 @@ loop-again c =
           (⊎-elim
           (λ w. subst (CandidateAfter _ _ _ _) (sym (w .3)) (candidate-more _ _ _ _ (l .inv .1) (sym (w .1 .ensures ∙ is-held (c .before) (w .0 .taken)) ∙ w .2 .left)))
           (λ w. subst (CandidateAfter _ _ _ _) (sym (w .1)) (candidate-more _ _ _ _ (l .inv .1)
-          (may-not-hold _ _ _ _ _ (p .0) _ (omega arith) (f .before .before .before .side-codes .ensures) (f .four-at .ensures) [] (sym (c .before .may-hold .ensures) ∙ w .0 .left)))))
+          (may-not-hold _ _ _ _ (p .0) _ (omega arith) (f .four-at .ensures) _ _ (f .before .before .before .side-codes .ensures) [] (sym (c .before .may-hold .ensures) ∙ w .0 .left)))))
           (c .if1 .came),
     )
 

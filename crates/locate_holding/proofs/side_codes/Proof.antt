@@ -4,7 +4,7 @@ use mathlib.Core.Path.{_≡_, refl, ap, ap₂, _∙_}
 use lib.ListN.{set}
 use borrow.Author.Needs.{needs}
 use Rattle.arith.specs.Table.{fill, tabulate}
-use Rattle.locate.specs.Inner.{sideCode, sideCodes}
+use Rattle.locate.specs.Inner.{sideCode, codesBelow, sideCodes}
 use Rattle.locate.proofs.Codes.{codes-more}
 use Rattle.locate_holding.proofs.side_codes.Statement.{statement}
 use Rattle.locate_holding.proofs.side_codes.Tie as tie
@@ -16,7 +16,7 @@ abbrev μ-loop : tie.MeasureT-loop
 μ-loop points np q codes₀ v₀ codes v = np - v
 
 loop-holds : tie.Need-loop-holds Inv-loop μ-loop
-unfolding sideCodes tabulate fill
+unfolding sideCodes codesBelow tabulate fill
 loop-holds c = (omega arith, refl)
 
 point-at-requires : tie.Need-point-at-requires Inv-loop μ-loop
@@ -35,9 +35,10 @@ loop-less : tie.Need-loop-less Inv-loop μ-loop
 loop-less c = omega arith
 
 loop-again : tie.Need-loop-again Inv-loop μ-loop
+unfolding sideCodes
 loop-again c =
     let l = c .before .before .before .loop in
-    (omega arith, ap₂ (λ k x. set k (l .v) x) (l .inv .1) (c .side-code .ensures ∙ ap (λ p. sideCode p (c .before .before .before .before .before .args .q)) (c .before .point-at .ensures)) ∙ codes-more _ (l .v) _ (omega arith))
+    (omega arith, ap₂ (λ k x. set k (l .v) x) (l .inv .1) (c .side-code .ensures ∙ ap (λ p. sideCode p (c .before .before .before .before .before .args .q)) (c .before .point-at .ensures)) ∙ codes-more _ (l .v) (omega arith))
 
 returns : tie.Need-returns Inv-loop μ-loop
 returns c = let l = c .before .loop in
