@@ -63,6 +63,6 @@ END {
         calls++
     }
     close("sort")
-    print "stack: " calls + 0 " of 15 calls; with " library " for the C library " (over ? "not below " limit ":" over : "all below " limit)
-    exit over || calls != 15
+    print "stack: " calls + 0 " of 16 calls; with " library " for the C library " (over ? "not below " limit ":" over : "all below " limit)
+    exit over || calls != 16
 }

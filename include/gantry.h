@@ -66,6 +66,7 @@ typedef struct { uint8_t refusal; gantry_mesh mesh; uint32_t point, before, afte
 typedef struct { uint8_t refusal; uint32_t point, before, after, made; double least; } gantry_looked;
 typedef struct { uint8_t refusal; gantry_mesh mesh; uint32_t place; } gantry_listed;      /* place: of the refused node, or how many went in */
 typedef struct { uint8_t refusal; uint32_t cell; } gantry_located;
+typedef struct { uint8_t refusal; uint32_t count; } gantry_counted;
 typedef struct { uint8_t refusal; int32_t x, y, z; } gantry_corrected;
 typedef struct { uint8_t refusal; uint8_t answer; double t; } gantry_sphere;              /* 1 inside, 2 outside */
 typedef struct { uint8_t refusal; uint32_t x, y, z, count; } gantry_read;
@@ -179,6 +180,17 @@ gantry_listed gantry_insert_list(gantry_mesh mesh, GANTRY_TABLES, int32_t *corre
  * Refusals 1 2 3 4 7.
  */
 gantry_located gantry_locate(gantry_mesh mesh, GANTRY_TABLES, uint32_t x, uint32_t y, uint32_t z);
+
+/*
+ * The cells on a straight drive from a to b: every cell that shares at least one place with the segment, ends included and fractions of a
+ * step included, and no other. Their numbers go to cells, rising, and the answer has their count; entries beyond stay as they were, and all
+ * of them do where the call is refused. A cell is its faces, edges and corners too, so one that is touched in a single point is listed. From
+ * b to a the list is the same. Where a and b are equal, it is the cells that hold a. Every place of the segment is held by a listed cell, and
+ * the located cells of both ends are listed: all this is proved in crates/segment. An output of mesh.cells entries is always long enough.
+ * Writes the work area and cells alone. Refusals 1 2 3, 4 for an end outside the box, 10 for an output shorter than the list.
+ */
+gantry_counted gantry_drive_cells(gantry_mesh mesh, GANTRY_TABLES, uint32_t ax, uint32_t ay, uint32_t az,
+                                  uint32_t bx, uint32_t by, uint32_t bz, uint16_t *cells, size_t cells_len);
 
 /*
  * The correction of a position on each axis. In the located cell each corner has its share, the six-fold volume of the cell with that corner

@@ -34,10 +34,12 @@ both() {
     build bore "$@"
     build look "$@"
     build numbers "$@"
+    build drive "$@"
     build merge "$@"
     prints bore "$1"
     prints look "$1"
     prints numbers "$1"
+    prints drive "$1"
     prints merge "$1" examples/listing/noted.nodes examples/listing/taken.nodes "$out/merged.nodes"
 }
 
@@ -45,4 +47,4 @@ both c99 "${CC:-cc}"
 both c11 "${CC:-cc}"
 both c++11 "${CXX:-c++}" -x c++
 both c++17 "${CXX:-c++}" -x c++
-echo "run.sh: bore, look, numbers and merge as C99, C11, C++11 and C++17 printed what their .txt files have"
+echo "run.sh: bore, look, numbers, drive and merge as C99, C11, C++11 and C++17 printed what their .txt files have"

@@ -13,7 +13,7 @@ ghost use Rattle.mesh.specs.Check.{isMesh};
 ghost use Rattle.cavity.specs.Answers.{sphere, handed};
 ghost use Rattle.corrections.specs.Calls.{setRefusal, setTable};
 ghost use Rattle.gantry_numbers.specs.Numbers.{testedOf};
-ghost use Rattle.gantry_numbers.specs.Promises.{Starts, Inserts, Looks, InsertsMarked, Lists, Locates, Corrects, Reads, Writes, Merges, GivesNear};
+ghost use Rattle.gantry_numbers.specs.Promises.{Starts, Inserts, Looks, InsertsMarked, Lists, Locates, ListsCells, Corrects, Reads, Writes, Merges, GivesNear};
 use corrections::Correction;
 use corrections_call::correction;
 use corrections_call::set_correction;
@@ -24,6 +24,7 @@ use corrections_single::insert;
 use corrections_single::insert_answers;
 use corrections_start::start;
 use gantry_numbers::GantryCorrected;
+use gantry_numbers::GantryCounted;
 use gantry_numbers::GantryInserted;
 use gantry_numbers::GantryListed;
 use gantry_numbers::GantryLocated;
@@ -33,6 +34,7 @@ use gantry_numbers::GantrySphere;
 use gantry_numbers::GantryStarted;
 use gantry_numbers::GantryWritten;
 use gantry_numbers::corrected;
+use gantry_numbers::counted;
 use gantry_numbers::inserted;
 use gantry_numbers::listed;
 use gantry_numbers::located;
@@ -50,6 +52,7 @@ use mesh::Mesh;
 use mesh_check::check;
 use nodefile_read::read_nodes;
 use nodefile_write::write_nodes;
+use segment_call::segment_cells;
 
 #[no_mangle]
 pub extern "C" fn gantry_volume6(
@@ -283,6 +286,37 @@ pub extern "C" fn gantry_locate(
 {
     let q = Position { x: x, y: y, z: z };
     located(locate(mesh, points, corners, neighbours, work, q))
+}
+
+#[no_mangle]
+pub extern "C" fn gantry_drive_cells(
+    mesh: Mesh,
+    points: &[u32],
+    corners: &[u16],
+    neighbours: &[u16],
+    work: &mut [u16],
+    ax: u32,
+    ay: u32,
+    az: u32,
+    bx: u32,
+    by: u32,
+    bz: u32,
+    cells: &mut [u16],
+) -> GantryCounted
+    ensures { λ r. ⌜ ListsCells mesh (tablesBefore points corners neighbours) (now (work .entry)) (position ax ay az) (position bx by bz) (now (cells .entry))
+        r (now (work .exit)) (now (cells .exit)) ⌝ }
+{
+    let a = Position {
+        x: ax,
+        y: ay,
+        z: az,
+    };
+    let b = Position {
+        x: bx,
+        y: by,
+        z: bz,
+    };
+    counted(segment_cells(mesh, points, corners, neighbours, work, a, b, cells))
 }
 
 #[no_mangle]

@@ -19,17 +19,20 @@ use Rattle.mesh.specs.declared.Mesh.{Mesh}
 use Rattle.mesh.specs.Tables.{Tables}
 use Rattle.insertion.specs.declared.Looked.{Looked}
 use Rattle.corrections.specs.Calls.{Left, Leaves, lookWith, LookLeft}
+use Rattle.segment.specs.declared.Counted.{Counted}
+use Rattle.segment.specs.Call.{SegmentLeaves}
 use Rattle.nodefile.specs.declared.Read.{Read}
 use Rattle.nodefile.specs.declared.Written.{Written}
 use Rattle.nodefile.specs.Read.{ReadLeaves}
 use Rattle.nodefile.specs.Write.{WriteLeaves}
 use Rattle.merging.specs.Merge.{MergeLeaves}
 use Rattle.gantry_numbers.specs.declared.GantryLooked.{GantryLooked}
+use Rattle.gantry_numbers.specs.declared.GantryCounted.{GantryCounted}
 use Rattle.gantry_numbers.specs.declared.GantrySphere.{GantrySphere}
 use Rattle.gantry_numbers.specs.declared.GantryRead.{GantryRead}
 use Rattle.gantry_numbers.specs.declared.GantryWritten.{GantryWritten}
-use Rattle.gantry_numbers.specs.Numbers.{lookedOf, sphereOf, testedOf, readOf, writtenOf}
-use Rattle.gantry_numbers.specs.Promises.{Gives, Looks, Reads, Writes, Merges, GivesNear}
+use Rattle.gantry_numbers.specs.Numbers.{lookedOf, countedOf, sphereOf, testedOf, readOf, writtenOf}
+use Rattle.gantry_numbers.specs.Promises.{Gives, Looks, ListsCells, Reads, Writes, Merges, GivesNear}
 
 pub gives : {Answer Numbers : Type 0} (of : Answer → Numbers) {l : Left Answer} {ws ws′ : List ℕ} {t′ : Tables} {cs′ : List ℤ} {s : Answer} {r : Numbers} →
     Leaves l ws s t′ cs′ ws′ → r ≡ of s → Gives of l ws r t′ ws′ cs′
@@ -42,6 +45,10 @@ looks k e = record { answer = e ∙ ap lookedOf (k .answer); tables = k .tables;
 pub writes : {m : Mesh} {t : Tables} {ws ws′ out out′ : List ℕ} {s : Written} {r : GantryWritten} →
     WriteLeaves m t ws out s ws′ out′ → r ≡ writtenOf s → Writes m t ws out r ws′ out′
 writes l e = record { answer = e ∙ ap writtenOf (l .answer); output = l .output; work = l .work }
+
+pub lists-cells : {m : Mesh} {t : Tables} {ws ws′ out out′ : List ℕ} {a b : Position} {s : Counted} {r : GantryCounted} →
+    SegmentLeaves m t ws a b out s ws′ out′ → r ≡ countedOf s → ListsCells m t ws a b out r ws′ out′
+lists-cells l e = record { answer = e ∙ ap countedOf (l .answer); output = l .output; work = l .work }
 
 pub reads : {file out out′ : List ℕ} {s : Read} {r : GantryRead} →
     ReadLeaves file out s out′ → r ≡ readOf s → Reads file out r out′

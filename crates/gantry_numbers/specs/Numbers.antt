@@ -19,6 +19,8 @@ use Rattle.insertion.specs.declared.Listed.{Listed}
 use Rattle.insertion.specs.declared.Listed.the-variants.{Ended, Stopped, Refused as ListRefused}
 use Rattle.corrections.specs.declared.Corrected.{Corrected}
 use Rattle.corrections.specs.declared.Corrected.the-variants.{By, Refused as NotCorrected}
+use Rattle.segment.specs.declared.Counted.{Counted}
+use Rattle.segment.specs.declared.Counted.the-variants.{Count, Refused as NotCounted}
 use Rattle.nodefile.specs.declared.Read.{Read}
 use Rattle.nodefile.specs.declared.Read.the-variants.{Nodes, Refused as ReadRefused}
 use Rattle.nodefile.specs.declared.Written.{Written}
@@ -28,6 +30,7 @@ use Rattle.gantry_numbers.specs.declared.GantryInserted.{GantryInserted}
 use Rattle.gantry_numbers.specs.declared.GantryLooked.{GantryLooked}
 use Rattle.gantry_numbers.specs.declared.GantryListed.{GantryListed}
 use Rattle.gantry_numbers.specs.declared.GantryLocated.{GantryLocated}
+use Rattle.gantry_numbers.specs.declared.GantryCounted.{GantryCounted}
 use Rattle.gantry_numbers.specs.declared.GantryCorrected.{GantryCorrected}
 use Rattle.gantry_numbers.specs.declared.GantrySphere.{GantrySphere}
 use Rattle.gantry_numbers.specs.declared.GantryRead.{GantryRead}
@@ -70,6 +73,10 @@ listedOf m (ListRefused e) = record { refusal = e; mesh = m; place = 0 }
 unfoldable pub locatedOf : Located → GantryLocated
 locatedOf (Cell c) = record { refusal = 0; cell = c }
 locatedOf (LocateRefused e) = record { refusal = e; cell = 0 }
+
+unfoldable pub countedOf : Counted → GantryCounted
+countedOf (Count n) = record { refusal = 0; count = n }
+countedOf (NotCounted e) = record { refusal = e; count = 0 }
 
 unfoldable pub correctedOf : Corrected → GantryCorrected
 correctedOf (By d) = record { refusal = 0; x = d .x; y = d .y; z = d .z }

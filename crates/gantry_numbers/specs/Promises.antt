@@ -12,6 +12,7 @@ use Rattle.mesh.specs.Tables.{Tables, cleared}
 use Rattle.locate.specs.Locate.{locateCall}
 use Rattle.cavity.specs.Answers.{Answers}
 use Rattle.corrections.specs.Calls.{Left, startWith, insertWith, markedWith, listWith, lookWith, correctionCall}
+use Rattle.segment.specs.Call.{segmentAnswer, segmentOutput}
 use Rattle.nodefile.specs.Read.{readAnswer, readOutput}
 use Rattle.nodefile.specs.Write.{writeAnswer, writeOutput}
 use Rattle.merging.specs.Merge.{mergeAnswer, mergeOutput}
@@ -20,11 +21,12 @@ use Rattle.gantry_numbers.specs.declared.GantryInserted.{GantryInserted}
 use Rattle.gantry_numbers.specs.declared.GantryLooked.{GantryLooked}
 use Rattle.gantry_numbers.specs.declared.GantryListed.{GantryListed}
 use Rattle.gantry_numbers.specs.declared.GantryLocated.{GantryLocated}
+use Rattle.gantry_numbers.specs.declared.GantryCounted.{GantryCounted}
 use Rattle.gantry_numbers.specs.declared.GantryCorrected.{GantryCorrected}
 use Rattle.gantry_numbers.specs.declared.GantrySphere.{GantrySphere}
 use Rattle.gantry_numbers.specs.declared.GantryRead.{GantryRead}
 use Rattle.gantry_numbers.specs.declared.GantryWritten.{GantryWritten}
-use Rattle.gantry_numbers.specs.Numbers.{startedOf, insertedOf, lookedOf, listedOf, locatedOf, correctedOf, readOf, writtenOf}
+use Rattle.gantry_numbers.specs.Numbers.{startedOf, insertedOf, lookedOf, listedOf, locatedOf, countedOf, correctedOf, readOf, writtenOf}
 
 -- tables, a work area ws and corrections are lent, and left as t′, ws′ and cs′: by a call that leaves l, with its answer's numbers. A refusal, too,
 -- is one of the definitions' cases.
@@ -61,6 +63,11 @@ pub record Corrects (m : Mesh) (t : Tables) (ws : List ℕ) (cs : List ℤ) (p :
 
 pub record Locates (m : Mesh) (t : Tables) (ws : List ℕ) (p : Position) (r : GantryLocated) (ws′ : List ℕ) : Type 0 where
   pub answer : r ≡ locatedOf (locateCall m t (length ws) p)
+  pub work : ws′ ≡ cleared ws
+
+pub record ListsCells (m : Mesh) (t : Tables) (ws : List ℕ) (a b : Position) (out : List ℕ) (r : GantryCounted) (ws′ out′ : List ℕ) : Type 0 where
+  pub answer : r ≡ countedOf (segmentAnswer m t (length ws) a b (length out))
+  pub output : out′ ≡ segmentOutput m t (length ws) a b out
   pub work : ws′ ≡ cleared ws
 
 pub record Reads (file out : List ℕ) (r : GantryRead) (out′ : List ℕ) : Type 0 where

@@ -2,7 +2,7 @@
 // field order and layouts are fixed.
 
 ghost use mathlib.Core.Path.{_≡_};
-ghost use Rattle.gantry_numbers.specs.Numbers.{noMesh, startedOf, insertedOf, lookedOf, listedOf, locatedOf, correctedOf, sphereOf, testedOf, readOf, writtenOf};
+ghost use Rattle.gantry_numbers.specs.Numbers.{noMesh, startedOf, insertedOf, lookedOf, listedOf, locatedOf, countedOf, correctedOf, sphereOf, testedOf, readOf, writtenOf};
 use corrections::Corrected;
 use insertion::Inserted;
 use insertion::Listed;
@@ -14,6 +14,7 @@ use mesh::Mesh;
 use mesh::Started;
 use nodefile::Read;
 use nodefile::Written;
+use segment::Counted;
 
 // In each answer, refusal is 0 where the call was accepted, and a field that a refusal leaves without meaning is 0.
 
@@ -56,6 +57,13 @@ pub struct GantryListed {
 pub struct GantryLocated {
     pub refusal: u8,
     pub cell: u32,
+}
+
+// How many cells are listed.
+#[repr(C)]
+pub struct GantryCounted {
+    pub refusal: u8,
+    pub count: u32,
 }
 
 #[repr(C)]
@@ -199,6 +207,21 @@ pub fn located(answer: Located) -> GantryLocated
         Located::Refused(number) => GantryLocated {
             refusal: number,
             cell: 0,
+        },
+    }
+}
+
+pub fn counted(answer: Counted) -> GantryCounted
+    ensures { λ r. ⌜ r ≡ countedOf answer ⌝ }
+{
+    match answer {
+        Counted::Count(count) => GantryCounted {
+            refusal: 0,
+            count: count,
+        },
+        Counted::Refused(number) => GantryCounted {
+            refusal: number,
+            count: 0,
         },
     }
 }

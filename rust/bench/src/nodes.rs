@@ -10,7 +10,8 @@ pub struct Set {
     pub nodes: Vec<Position>,
 }
 
-const CUBE: Position = [SIDE_LIMIT; 3];
+/// The box of the random nodes, and of some others.
+pub const CUBE: Position = [SIDE_LIMIT; 3];
 
 fn anywhere(random: &mut Random, sides: Position) -> Position {
     sides.map(|side| random.below(side as u64 + 1) as u32)

@@ -35,7 +35,7 @@ const fn entry(
 }
 
 #[rustfmt::skip]
-pub const ENTRIES: [Entry; 29] = [
+pub const ENTRIES: [Entry; 33] = [
     entry("random", "620 random nodes", Some(2.0), || list(nodes::random(620))),
     entry("lattice", "lattice 9×9×9", Some(2.0), || list(nodes::lattice(9))),
     entry("lattice-8", "lattice 9×9×9 in a cube of side 8", Some(2.0), || list(nodes::small_lattice(9))),
@@ -49,6 +49,10 @@ pub const ENTRIES: [Entry; 29] = [
     entry("locate", "locate", Some(2.0), || locate(anywhere)),
     entry("locate-0", "locate inside cell 0", Some(2.0), || locate(inside_cell_0)),
     entry("locate-point", "locate at the point of most cells", Some(2.0), || locate(at_a_point)),
+    entry("drive", "drive along a diagonal of the box", Some(2.0), || drive(DIAGONAL)),
+    entry("drive-short", "drive along a fiftieth of it", Some(2.0), || drive(SHORT)),
+    entry("drive-wall", "drive in a wall", Some(2.0), || drive(IN_A_WALL)),
+    entry("drive-point", "drive of length 0", Some(2.0), || drive(AT_A_PLACE)),
     entry("correction", "correction of a position", Some(2.0), correction),
     entry("look", "look", Some(2.0), look),
     entry("insert", "insert a node", Some(2.0), || insert(false)),
@@ -111,6 +115,8 @@ pub struct Work {
     copy: Owned,
     numbers: Vec<u32>,
     bytes: Vec<u8>,
+    /// Those of a drive.
+    cells: Vec<u16>,
 }
 
 enum Kind {
@@ -118,6 +124,7 @@ enum Kind {
     List(Set),
     Check,
     Locate(Vec<Position>),
+    Drive([Position; 2]),
     Correction(Vec<Position>),
     /// Marks go to the bytes.
     Look(Vec<Position>),
@@ -131,7 +138,7 @@ enum Kind {
 
 /// What a pass leaves, to be compared.
 #[derive(PartialEq)]
-pub struct Left(Answer, [Owned; 2], Vec<u32>, Vec<u8>);
+pub struct Left(Answer, [Owned; 2], Vec<u32>, Vec<u8>, Vec<u16>);
 
 fn list(set: Set) -> Work {
     Work {
@@ -145,6 +152,7 @@ fn list(set: Set) -> Work {
         copy: Owned::with_room(0, 0),
         numbers: vec![],
         bytes: vec![],
+        cells: vec![],
     }
 }
 
@@ -165,6 +173,7 @@ fn call(kind: Kind) -> Work {
         tables,
         numbers: vec![0; 3 * NODE_LIMIT],
         bytes: encode(sides, &nodes),
+        cells: vec![],
     }
 }
 
@@ -181,6 +190,7 @@ fn merge(Set { sides, nodes }: Set, files: &Files) -> Work {
         copy: Owned::with_room(0, 0),
         numbers: vec![],
         bytes: vec![0; 12 * NODE_LIMIT + 20],
+        cells: vec![],
     }
 }
 
@@ -193,6 +203,19 @@ fn locate(positions: fn(&Loaded) -> Vec<Position>) -> Work {
     let positions = positions(&loaded(&mut work));
     work.units = positions.len();
     work.kind = Kind::Locate(positions);
+    work
+}
+
+const SIDE: u32 = nodes::CUBE[0];
+const DIAGONAL: [Position; 2] = [[0; 3], nodes::CUBE];
+/// In the middle.
+const SHORT: [Position; 2] = [[SIDE / 100 * 49; 3], [SIDE / 100 * 51; 3]];
+const IN_A_WALL: [Position; 2] = [[0; 3], [SIDE, SIDE / 2, 0]];
+const AT_A_PLACE: [Position; 2] = [[SIDE / 2; 3]; 2];
+
+fn drive(ends: [Position; 2]) -> Work {
+    let mut work = call(Kind::Drive(ends));
+    work.cells = vec![0; work.mesh.cells as usize];
     work
 }
 
@@ -291,6 +314,9 @@ impl Work {
                 }
                 last
             }
+            Kind::Drive(ends) => {
+                Answer::Counted(build.drive_cells(mesh, tables, *ends, &mut self.cells))
+            }
             Kind::Correction(positions) => {
                 let mut last = Answer::Checked(false);
                 for &p in positions {
@@ -326,6 +352,7 @@ impl Work {
         match self.kind {
             Kind::List(_) => self.tables = Owned::largest(),
             Kind::Merge(_) => self.bytes.fill(0),
+            Kind::Drive(_) => self.cells.fill(0),
             _ => {}
         }
         let answer = self.pass(build);
@@ -334,6 +361,7 @@ impl Work {
             [self.tables.clone(), self.copy.clone()],
             self.numbers.clone(),
             self.bytes.clone(),
+            self.cells.clone(),
         )
     }
 

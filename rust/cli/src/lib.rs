@@ -1,10 +1,11 @@
-//! The command `gantry`. The cells, the mesh check, the located cell, the cells that a node would replace, the volumes and
-//! the node files that are read, merged and written come from the proved archive; reading text and listings, explaining a
-//! check, naming the cells that hold a position and drawing are this crate's own.
+//! The command `gantry`. The cells, the mesh check, the located cell, the cells that a node would replace, those on a drive,
+//! the volumes and the node files that are read, merged and written come from the proved archive; reading text and listings,
+//! explaining a check, naming the cells that hold a position and drawing are this crate's own.
 
 pub mod check;
 pub mod commands;
 pub mod corrections;
+pub mod drive;
 pub mod fields;
 pub mod grid;
 pub mod input;

@@ -43,12 +43,6 @@ impl Replacing {
         })
     }
 
-    /// Is a point a corner of a cell that would be replaced?
-    pub fn has_corner(&self, point: usize) -> bool {
-        let mut cells = self.cells.iter();
-        cells.any(|cell| cell.corners.contains(&point))
-    }
-
     /// `node x y z would be point P and replace A of C cells by M`
     pub fn summary(&self) -> String {
         let report = self.look.report();

@@ -1,9 +1,9 @@
 //! A grid as a picture: the edges of its cells in an axonometric view, the near ones over the far ones, with the numbers of
-//! points and cells where there are few. With a look, the cells that its node would replace stand out; with corrections, points
-//! have arrows.
+//! points and cells where there are few. With a look, the cells that its node would replace stand out, with a drive, those on it;
+//! with corrections, points have arrows.
 
 mod arrows;
-mod replaced;
+mod emphasis;
 
 use std::fmt::Write;
 
@@ -12,8 +12,8 @@ use gantry::{Cell, Correction, Position};
 use crate::counted;
 use crate::grid::{edges, Grid};
 use crate::labels::{Page, Point2, Rectangle};
-use crate::look::Replacing;
 use arrows::{arrows, Arrow};
+pub use emphasis::Emphasis;
 
 /// Pixels of the picture's longer side, without the margin, for few points.
 const SIZE: f64 = 440.0;
@@ -34,8 +34,8 @@ const PALE_DOT: &str = " fill-opacity=\"0.6\"";
 /// Points and cells are numbered where there are at most so many.
 pub const NUMBERED_POINTS: usize = 64;
 pub const NUMBERED_CELLS: usize = 24;
-/// The cells that the node of a look would replace, which lie close together.
-pub const NUMBERED_REPLACED: usize = 12;
+/// The cells that stand out, which lie close together.
+pub const NUMBERED_EMPHASIS: usize = 12;
 
 const BOX_COLOUR: &str = "#102a57";
 const NODE_COLOUR: &str = "#b4410f";
@@ -170,8 +170,8 @@ fn is_on_box_edge(sides: Position, [p, q]: [Position; 2]) -> bool {
 
 struct Picture<'a> {
     grid: &'a Grid,
-    replacing: Option<&'a Replacing>,
-    /// The points, and then the node of a look: it has the number that it would get.
+    emphasis: Option<Emphasis<'a>>,
+    /// The points, and then the positions of what stands out: the node of a look, or the ends of a drive.
     view: View,
     /// The far ones first.
     edges: Vec<[usize; 2]>,
@@ -185,17 +185,17 @@ struct Picture<'a> {
 impl<'a> Picture<'a> {
     fn new(
         grid: &'a Grid,
-        replacing: Option<&'a Replacing>,
+        emphasis: Option<Emphasis<'a>>,
         corrections: &[Correction],
     ) -> Picture<'a> {
-        let node = replacing.map(|replacing| replacing.look.position());
-        let points: Vec<Position> = grid.points.iter().copied().chain(node).collect();
+        let more = emphasis.map(Emphasis::positions).unwrap_or_default();
+        let points: Vec<Position> = grid.points.iter().copied().chain(more).collect();
         let view = view(&points, stretch(grid.sides));
         let mut edges = Vec::from_iter(edges(grid.cells.iter().copied()));
         edges.sort_by(|&a, &b| view.nearness(a).total_cmp(&view.nearness(b)));
         Picture {
             grid,
-            replacing,
+            emphasis,
             view,
             edges,
             arrows: arrows(corrections, grid.sides),
@@ -231,7 +231,7 @@ impl<'a> Picture<'a> {
         let near = self.view.nearness(edge);
         let width = if is_of_box { 2.2 } else { 0.7 + 0.8 * near };
         let ends = self.view.places(edge);
-        let paleness = self.replacing.map_or(0.0, |_| PALENESS);
+        let paleness = self.emphasis.map_or(0.0, |_| PALENESS);
         let stroke = mixed(mixed(FAR, NEAR, near), WHITE, paleness);
         self.border(ends, "#ffffff", width + 3.0);
         self.line(ends, &written(stroke), width);
@@ -247,20 +247,20 @@ impl<'a> Picture<'a> {
         match point {
             0..8 => BOX_COLOUR,
             _ if point < self.grid.points.len() => NODE_COLOUR,
-            _ => replaced::NODE_COLOUR,
+            _ => emphasis::RING_COLOUR,
         }
     }
 
     fn radius(&self, point: usize) -> f64 {
         match point < self.grid.points.len() {
             true => 2.0 + 1.5 * self.view.points[point].near,
-            false => replaced::RING,
+            false => emphasis::RING,
         }
     }
 
     fn draw_point(&mut self, point: usize) {
         let (at, fill) = (self.view.points[point].at, self.point_colour(point));
-        let is_pale = self.replacing.is_some_and(|r| !r.has_corner(point));
+        let is_pale = self.emphasis.is_some_and(|e| !e.has_corner(point));
         let more = if is_pale { PALE_DOT } else { "" };
         let _ = writeln!(
             self.text,
@@ -309,26 +309,26 @@ impl<'a> Picture<'a> {
         Page::new(
             edge,
             (0..points.len()).map(dot).collect(),
-            lines.chain(arrows).collect(),
+            lines.chain(arrows).chain(self.drive_line()).collect(),
         )
     }
 
-    /// All points; where they are too many, with a look, the corners of the cells that would be replaced.
+    /// All points; where they are too many, the corners of the cells that stand out.
     fn numbered_points(&self) -> Option<Vec<usize>> {
         let points = self.grid.points.len();
-        let numbered: Vec<usize> = match self.replacing {
-            Some(r) if points > NUMBERED_POINTS => {
-                (0..points).filter(|&point| r.has_corner(point)).collect()
+        let numbered: Vec<usize> = match self.emphasis {
+            Some(e) if points > NUMBERED_POINTS => {
+                (0..points).filter(|&point| e.has_corner(point)).collect()
             }
             _ => (0..points).collect(),
         };
         Some(numbered).filter(|points| points.len() <= NUMBERED_POINTS)
     }
 
-    /// All cells, or with a look those that would be replaced.
+    /// All cells, or those that stand out.
     fn numbered_cells(&self) -> Option<&'a [Cell]> {
-        let (cells, limit): (&[Cell], usize) = match self.replacing {
-            Some(replacing) => (&replacing.cells, NUMBERED_REPLACED),
+        let (cells, limit): (&[Cell], usize) = match self.emphasis {
+            Some(emphasis) => (emphasis.cells(), NUMBERED_EMPHASIS),
             None => (&self.grid.cells, NUMBERED_CELLS),
         };
         Some(cells).filter(|cells| cells.len() <= limit)
@@ -336,13 +336,15 @@ impl<'a> Picture<'a> {
 
     fn draw_labels(&mut self) {
         let mut page = self.page();
-        // The node of a look first, so that it has the best place.
-        let node = self.replacing.map(|r| r.look.report().point);
+        // The node of a look or the ends of a drive first, so that they have the best places.
+        let rings = self.emphasis.map(Emphasis::labels).unwrap_or_default();
+        let rings = (self.grid.points.len()..).zip(rings);
         let points = self.numbered_points().unwrap_or_default();
-        for point in node.into_iter().chain(points) {
+        let points = points.into_iter().map(|point| (point, point.to_string()));
+        for (point, words) in rings.chain(points) {
             let (at, fill) = (self.view.points[point].at, self.point_colour(point));
             let clear = self.radius(point) + 0.7 * FONT;
-            self.label(&mut page, &point.to_string(), fill, at, clear);
+            self.label(&mut page, &words, fill, at, clear);
         }
         for cell in self.numbered_cells().unwrap_or_default() {
             let (words, anchor) = (cell.number.to_string(), self.view.middle(cell.corners).at);
@@ -361,7 +363,7 @@ impl<'a> Picture<'a> {
     fn caption(&self, more: &[String]) -> Vec<String> {
         let mut lines = vec![self.grid.summary()];
         lines.extend_from_slice(more);
-        lines.extend(self.replacing.map(|_| replaced::COLOURS.to_string()));
+        lines.extend(self.emphasis.map(|e| e.colours().to_string()));
         lines.push(self.colours());
         if self.left_out > 0 {
             lines.push(format!(
@@ -374,8 +376,8 @@ impl<'a> Picture<'a> {
 
     fn colours(&self) -> String {
         let mut words = "blue: box corners, brown: nodes".to_string();
-        if self.replacing.is_some() {
-            words += ", ring: the new one";
+        if let Some(emphasis) = self.emphasis {
+            words = words + ", " + emphasis.rings();
         }
         if self.numbered_cells().is_some() {
             words += ", green: cells";
@@ -411,15 +413,16 @@ impl Grid {
     pub fn to_svg(
         &self,
         more: &[String],
-        replacing: Option<&Replacing>,
+        emphasis: Option<Emphasis>,
         corrections: &[Correction],
     ) -> String {
-        let mut picture = Picture::new(self, replacing, corrections);
+        let mut picture = Picture::new(self, emphasis, corrections);
         let edges = picture.edges.clone();
-        match replacing {
+        match emphasis {
             None => picture.draw_edges(&edges),
-            Some(replacing) => picture.draw_edges_and_replaced(&edges, replacing),
+            Some(emphasis) => picture.draw_edges_and_emphasis(&edges, emphasis),
         }
+        picture.draw_drive();
         for point in 0..self.points.len() {
             picture.draw_point(point);
         }
@@ -427,9 +430,7 @@ impl Grid {
             picture.draw_arrow(&arrow);
         }
         picture.draw_labels();
-        if let Some(replacing) = replacing {
-            picture.draw_node(replacing.look.report().point);
-        }
+        picture.draw_rings();
         let corrected = arrows::summary(corrections);
         let more: Vec<String> = more.iter().cloned().chain(corrected).collect();
         let caption = picture.caption(&more);

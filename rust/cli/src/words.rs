@@ -16,6 +16,7 @@ pub enum Choice {
     Sides,
     LeaveOut,
     Look,
+    Drive,
     Corrections,
 }
 
@@ -27,6 +28,7 @@ impl Choice {
             "--box" => Some(Choice::Sides),
             "--leave-out" => Some(Choice::LeaveOut),
             "--look" => Some(Choice::Look),
+            "--drive" => Some(Choice::Drive),
             "--corrections" => Some(Choice::Corrections),
             _ => None,
         }
@@ -55,6 +57,10 @@ impl Choice {
                 "--look x y z",
                 "show the cells that a node there would replace; it does not go in",
             ],
+            Choice::Drive => [
+                "--drive x y z x y z",
+                "show the cells on a straight drive from the first position to the second",
+            ],
             Choice::Corrections => [
                 "--corrections FILE",
                 "show the corrections in FILE, a line 'point dx dy dz' for each point that has one",
@@ -72,6 +78,7 @@ pub struct Words {
     pub sides: Option<Position>,
     pub leave_out: bool,
     pub look: Option<[i64; 3]>,
+    pub drive: Option<[[i64; 3]; 2]>,
     pub corrections: Option<OsString>,
 }
 
@@ -113,12 +120,17 @@ impl Words {
             Choice::Output => self.output = Some(file(value)?),
             Choice::Listing => self.listing = Some(file(value)?),
             Choice::Corrections => self.corrections = Some(file(value)?),
-            Choice::Sides | Choice::LeaveOut | Choice::Look if value.is_some() => {
+            Choice::Sides | Choice::LeaveOut | Choice::Look | Choice::Drive if value.is_some() => {
                 return Err(Failure::Usage(format!("{name} takes no =")));
             }
             Choice::Sides => self.sides = Some(sides(rest.take(3))?),
             Choice::LeaveOut => self.leave_out = true,
-            Choice::Look => self.look = Some(node(rest.take(3))?),
+            Choice::Look => self.look = Some(wanted(rest, "--look wants a node x y z")?),
+            Choice::Drive => {
+                let what = "--drive wants two positions x y z x y z";
+                let [ax, ay, az, bx, by, bz] = wanted(rest, what)?;
+                self.drive = Some([[ax, ay, az], [bx, by, bz]]);
+            }
         }
         Ok(())
     }
@@ -165,10 +177,14 @@ fn sides<'a>(words: impl Iterator<Item = &'a OsString>) -> Result<Position, Fail
         })
 }
 
-fn node<'a>(words: impl Iterator<Item = &'a OsString>) -> Result<[i64; 3], Failure> {
-    let words: Vec<OsString> = words.cloned().collect();
+/// The next `COUNT` words of an option, as numbers.
+fn wanted<'a, const COUNT: usize>(
+    words: &mut impl Iterator<Item = &'a OsString>,
+    what: &str,
+) -> Result<[i64; COUNT], Failure> {
+    let words: Vec<OsString> = words.take(COUNT).cloned().collect();
     numbers(&words).map_err(|failure| match failure {
-        Failure::Usage(why) => Failure::Usage(format!("--look wants a node x y z: {why}")),
+        Failure::Usage(why) => Failure::Usage(format!("{what}: {why}")),
         failure => failure,
     })
 }

@@ -26,15 +26,15 @@ fn the_manual_s_box_is_the_command_s() {
     assert!(picture == include_str!("../../../docs/box.svg"));
 }
 
-/// README's pictures of the survey, without a look and with one.
+/// The pictures of the survey, as it is, with a look and with a drive.
 #[test]
 fn the_pictures_of_the_survey_are_the_command_s() {
     const SURVEY: &str = concat!(
         env!("CARGO_MANIFEST_DIR"),
         "/../../examples/survey/tracker-steps.csv"
     );
-    let drawn = |look: &str| {
-        let words = format!("svg --box 20000 12000 8000 --leave-out {look}");
+    let drawn = |option: &str| {
+        let words = format!("svg --box 20000 12000 8000 --leave-out {option}");
         let words = words.split_whitespace().chain([SURVEY]);
         let line: Vec<OsString> = words.map(OsString::from).collect();
         let (done, _) = commands::perform(&line).expect("a picture");
@@ -42,6 +42,8 @@ fn the_pictures_of_the_survey_are_the_command_s() {
     };
     assert!(drawn("") == include_bytes!("../../../docs/mesh.svg"));
     assert!(drawn("--look 15000 3000 5000") == include_bytes!("../../../docs/look.svg"));
+    let drive = "--drive 2000 1000 6000 19000 4000 2000";
+    assert!(drawn(drive) == include_bytes!("../../../docs/drive.svg"));
 }
 
 fn help_of(name: &str) -> String {
@@ -72,13 +74,13 @@ fn the_manual_has_the_limits() {
     assert!(words.contains(&format!(
         "each fault has its line, up to {FAULTS_TOLD} of them"
     )));
-    let replaced = svg::NUMBERED_REPLACED;
+    let shown = svg::NUMBERED_EMPHASIS;
     assert!(words.contains(&format!(
-        "Cell numbers are then theirs alone, up to {replaced} such cells; of more than {points} points"
+        "Cell numbers are then theirs alone, up to {shown} such cells; of more than {points} points"
     )));
     let help = help_of("svg");
     assert!(help.contains(&format!(
         "at\nmost {points}, cells where there are at most {cells}."
     )));
-    assert!(help.contains(&format!("where there are at most {replaced}")));
+    assert!(help.contains(&format!("where there are at most {shown}")));
 }

@@ -1,9 +1,11 @@
 use std::collections::BTreeSet;
 
 use gantry::{Mesh, Position};
+use gantry_cli::drive::Drive;
 use gantry_cli::grid::Grid;
 use gantry_cli::labels::{Page, Point2, Rectangle};
 use gantry_cli::look::Replacing;
+use gantry_cli::svg::Emphasis;
 use plain::random::Random;
 
 fn built(sides: Position, nodes: &[Position]) -> Mesh {
@@ -20,8 +22,16 @@ fn picture(sides: Position, nodes: &[Position]) -> String {
 /// With the look that it is of.
 fn picture_of_look(mesh: &mut Mesh, node: Position) -> (String, Replacing) {
     let replacing = Replacing::of(mesh, node).unwrap();
-    let text = Grid::from(&*mesh).to_svg(&[replacing.summary()], Some(&replacing), &[]);
+    let emphasis = Some(Emphasis::Look(&replacing));
+    let text = Grid::from(&*mesh).to_svg(&[replacing.summary()], emphasis, &[]);
     (text, replacing)
+}
+
+fn picture_of_drive(mesh: &mut Mesh, ends: [Position; 2]) -> (String, Drive) {
+    let drive = Drive::of(mesh, ends).unwrap();
+    let emphasis = Some(Emphasis::Drive(&drive));
+    let text = Grid::from(&*mesh).to_svg(&[drive.summary()], emphasis, &[]);
+    (text, drive)
 }
 
 fn counts(text: &str) -> [usize; 3] {
@@ -175,7 +185,7 @@ fn labels_of_small_meshes_do_not_overlap() {
         let Ok(replacing) = Replacing::of(&mut mesh, node) else {
             continue;
         };
-        let labels = self::labels(&grid.to_svg(&[], Some(&replacing), &[]));
+        let labels = self::labels(&grid.to_svg(&[], Some(Emphasis::Look(&replacing)), &[]));
         assert!(!do_overlap(&labels), "{}", replacing.summary());
     }
 }
@@ -239,6 +249,41 @@ fn a_look_stands_out() {
         }
     }
     assert!(dashed > 100, "{dashed}");
+}
+
+/// A tint for each cell on it, a line for each of their edges, one from A to B, and two rings.
+#[test]
+fn a_drive_stands_out() {
+    let mut random = Random::new(5);
+    let mut listed = BTreeSet::new();
+    for sides in [[4, 4, 4], [60, 9, 5], [2_000, 1_200, 800], [1, 131_072, 3]] {
+        let mut mesh = built(sides, &[]);
+        for _ in 0..25 {
+            let mut place = || sides.map(|side| random.below(u64::from(side) + 1) as u32);
+            let (a, b) = (place(), place());
+            let _ = mesh.insert(place());
+            let (text, drive) = picture_of_drive(&mut mesh, [a, b]);
+            assert!(!text.contains("NaN") && !text.contains("inf"));
+            let count = |what: &str| text.matches(what).count();
+            let cells = mesh.drive_cells(a, b).unwrap();
+            assert_eq!(count("<path "), cells.len());
+            assert_eq!(count("stroke-dasharray"), 0);
+            let orange = strokes(&text).into_iter().filter(is_orange).count();
+            assert_eq!(orange, drive.edges.len());
+            let purple = strokes(&text)
+                .into_iter()
+                .filter(|&stroke| stroke == "7a1fa2");
+            assert_eq!(purple.count(), 1);
+            assert_eq!(count("fill=\"#ffffff\" stroke=\"#7a1fa2\""), 2);
+            assert_eq!(count(">A</text>") + count(">B</text>"), 2);
+            assert!(text.contains(&format!(">{}</text>", drive.summary())));
+            if cells.len() <= 12 && !text.contains("left out for want of room") {
+                assert_eq!(cell_numbers(&text), cells.iter().copied().collect());
+            }
+            listed.insert(cells.len());
+        }
+    }
+    assert!(listed.len() > 5, "{listed:?}");
 }
 
 #[test]

@@ -4,8 +4,8 @@ use std::ops::Range;
 
 use plain::corrections::Correction;
 use plain::{
-    Answers, Corrected, Inserted, Listed, Located, Looked, Mesh, Position, Read, Sphere, Started,
-    Written, OUT_OF_RANGE,
+    Answers, Corrected, Counted, Inserted, Listed, Located, Looked, Mesh, Position, Read, Sphere,
+    Started, Written, OUT_OF_RANGE,
 };
 
 use crate::builders::Builder;
@@ -24,6 +24,8 @@ pub enum Call {
     InsertMarked(Vec<u8>, Position),
     InsertList(Vec<u32>),
     Locate(Position),
+    /// The ends, and how many entries the lent output has.
+    DriveCells([Position; 2], usize),
     Correction(Position),
     /// A point's number, and what is to be its correction.
     SetCorrection(u32, Correction),
@@ -60,6 +62,7 @@ pub enum Answer {
     Looked(Looked),
     Listed(Listed),
     Located(Located),
+    Counted(Counted),
     Corrected(Corrected),
     /// The refusal of a setting, or 0.
     Set(u8),
@@ -94,6 +97,7 @@ impl Answer {
             Answer::Looked(looked) => looked.refusal,
             Answer::Listed(listed) => listed.refusal,
             Answer::Located(located) => located.refusal,
+            Answer::Counted(counted) => counted.refusal,
             Answer::Corrected(corrected) => corrected.refusal,
             Answer::Set(refusal) => refusal,
             Answer::Read(read) => read.refusal,
@@ -127,10 +131,14 @@ pub struct Others {
     pub input: Guarded<u8>,
     /// Written: a file, or a look's marks.
     pub output: Guarded<u8>,
+    /// Written: the cells on a drive.
+    pub cells: Guarded<u16>,
 }
 
 /// What an output holds before the call; a look's marks may be any.
 const FILLED: u8 = 0x3C;
+/// The same of a drive's, which is no cell's number.
+pub const NO_CELL: u16 = 0x3C3C;
 
 impl Call {
     /// As in the C interface, without its prefix.
@@ -145,6 +153,7 @@ impl Call {
             Call::InsertMarked(..) => "insert_marked",
             Call::InsertList(_) => "insert_list",
             Call::Locate(_) => "locate",
+            Call::DriveCells(..) => "drive_cells",
             Call::Correction(_) => "correction",
             Call::SetCorrection(..) => "set_correction",
             Call::Check => "check",
@@ -177,6 +186,7 @@ impl Call {
             numbers,
             input,
             output,
+            cells,
         } = others;
         match *self {
             Call::Volume6(twelve) => Answer::Volume(builder.volume6(twelve)),
@@ -193,6 +203,9 @@ impl Call {
             }
             Call::InsertList(_) => Answer::Listed(builder.insert_list(mesh, lent, numbers.lent())),
             Call::Locate(p) => Answer::Located(builder.locate(mesh, lent, p)),
+            Call::DriveCells(ends, _) => {
+                Answer::Counted(builder.drive_cells(mesh, lent, ends, cells.lend()))
+            }
             Call::Correction(p) => Answer::Corrected(builder.correction(mesh, lent, p)),
             Call::SetCorrection(point, numbers) => {
                 Answer::Set(builder.set_correction(mesh, lent, point, numbers))
@@ -217,10 +230,15 @@ impl Call {
             Call::Look(marks, _) => (vec![], marks.clone()),
             _ => (vec![], vec![]),
         };
+        let cells = match self {
+            Call::DriveCells(_, room) => vec![NO_CELL; *room],
+            _ => vec![],
+        };
         Others {
             numbers: Guarded::new(&numbers, 0x5A5A_5A5A),
             input: Guarded::new(self.input(), 0x5A),
             output: Guarded::new(&output, 0x5A),
+            cells: Guarded::new(&cells, 0x5A5A),
         }
     }
 

@@ -5,6 +5,7 @@ use plain::{Mesh, Owned, Position, CELL_LIMIT, NONE, POINT_LIMIT, SIDE_LIMIT};
 
 use crate::call::{Call, Left};
 use crate::corrections;
+use crate::drives;
 use crate::entries::{self, rearrange, Entries};
 use crate::marks;
 use crate::merges;
@@ -128,13 +129,14 @@ impl History {
         let p = self.node(random);
         // Few meshes have numbers that take more than a byte.
         if self.mesh.points > 256 && random.one_in(2) {
-            return match random.below(5) {
+            return match random.below(6) {
                 0 => marks::look(random, self.mesh, p),
                 1 => self.insert_marked(random, p),
+                2 => self.drive(random),
                 _ => Call::Locate(self.located(random)),
             };
         }
-        match random.below(66) {
+        match random.below(72) {
             0 => Call::Start(nodes::any_sides(random)),
             1 => Call::Volume6(twelve(random)),
             2..4 => sphere_test(random),
@@ -149,6 +151,7 @@ impl History {
             33..40 => self.insert_marked(random, p),
             40..46 => Call::Correction(self.corrected(random)),
             46..52 => corrections::set_correction(random, self.mesh),
+            52..58 => self.drive(random),
             _ => Call::InsertAnswers(nodes::answers(random, self.mesh), p),
         }
     }
@@ -182,10 +185,30 @@ impl History {
         }
     }
 
+    fn points(&self) -> Vec<Position> {
+        let points = self.tables.points.as_chunks().0.iter();
+        points.take(self.mesh.points as usize).copied().collect()
+    }
+
+    /// Between places of some cell, points and others.
+    fn drive(&self, random: &mut Random) -> Call {
+        let any = [self.node(random), self.node(random)];
+        let Some(corners) = self.cell(random) else {
+            return Call::DriveCells(any, random.index(9));
+        };
+        let start = drives::Start {
+            sides: self.sides,
+            any,
+            points: &self.points(),
+            corners,
+        };
+        let ends = drives::ends(random, &start);
+        drives::drive(random, self.mesh, &self.tables, ends)
+    }
+
     /// At a point, halfway between two points, where there is one, or as a position to locate.
     fn corrected(&self, random: &mut Random) -> Position {
-        let points = self.tables.points.as_chunks().0.iter();
-        let points: Vec<Position> = points.take(self.mesh.points as usize).copied().collect();
+        let points = self.points();
         if points.is_empty() || random.one_in(2) {
             return self.located(random);
         }

@@ -4,6 +4,7 @@
 pub mod builders;
 pub mod call;
 pub mod corrections;
+pub mod drives;
 pub mod entries;
 pub mod generate;
 pub mod guarded;

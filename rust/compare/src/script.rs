@@ -31,6 +31,8 @@ pub enum Line {
     Marked(Vec<u8>, Position),
     /// `locate 1 2 3`
     Locate(Position),
+    /// `drive 0 0 0 4 4 4 6`: the cells between two positions, with so many entries for them.
+    Drive([Position; 2], u16),
     /// `correction 1 2 3`: of a position.
     Correction(Position),
     /// `set 8 5 -5 0`: a point's correction.
@@ -58,7 +60,7 @@ pub struct Record {
 }
 
 const KINDS: &str =
-    "'sphere', 'answers', 'look', 'marked', 'locate', 'correction', 'set', 'start', \
+    "'sphere', 'answers', 'look', 'marked', 'locate', 'drive', 'correction', 'set', 'start', \
                      'check', 'merge', 'cell', 'record' or 'stands'";
 
 fn number<T: std::str::FromStr>(word: &str) -> Result<T, String> {
@@ -157,6 +159,14 @@ fn merge(words: &[&str]) -> Result<Line, String> {
     }
 }
 
+fn drive(words: &[&str]) -> Result<Line, String> {
+    let &[ax, ay, az, bx, by, bz, room] = words else {
+        return Err("not two positions and a length".to_string());
+    };
+    let ends = [position(&[ax, ay, az])?, position(&[bx, by, bz])?];
+    Ok(Line::Drive(ends, number(room)?))
+}
+
 fn line(text: &str, script: &Script) -> Result<Line, String> {
     let words: Vec<&str> = text.split_whitespace().collect();
     match words[..] {
@@ -165,6 +175,7 @@ fn line(text: &str, script: &Script) -> Result<Line, String> {
         ["look", ref node @ ..] => Ok(Line::Look(position(node)?)),
         ["marked", marks, ref node @ ..] => Ok(Line::Marked(digits(marks, 9)?, position(node)?)),
         ["locate", ref position @ ..] => Ok(Line::Locate(self::position(position)?)),
+        ["drive", ref numbers @ ..] => drive(numbers),
         ["correction", ref position @ ..] => Ok(Line::Correction(self::position(position)?)),
         ["set", point, ref numbers @ ..] => Ok(Line::Set(number(point)?, three(numbers)?)),
         ["start", ref sides @ ..] => Ok(Line::Start(position(sides)?)),
@@ -231,6 +242,24 @@ fn located(build: &dyn Builder, mesh: Mesh, tables: &mut Owned, p: Position) -> 
     corners.sort();
     let [a, b, c, d] = corners;
     format!("cell {} corners {a} {b} {c} {d}\n", answer.cell)
+}
+
+/// The numbers in the order of the list, with dashes for entries beyond that are as they were, or the refusal.
+fn driven(
+    build: &dyn Builder,
+    mesh: Mesh,
+    tables: &mut Owned,
+    ends: [Position; 2],
+    room: u16,
+) -> String {
+    let mut cells = vec![NONE; room.into()];
+    let answer = build.drive_cells(mesh, &mut tables.lend(), ends, &mut cells);
+    let number = |&c: &u16| match c {
+        NONE => " -".to_string(),
+        c => format!(" {c}"),
+    };
+    let cells: String = cells.iter().map(number).collect();
+    done(answer.refusal, &format!("drive {}:{cells}", answer.count))
 }
 
 fn corrected(answer: Corrected) -> String {
@@ -306,6 +335,7 @@ impl Line {
         match self {
             Line::Look(p) => looked(build, *mesh, tables, *p),
             Line::Locate(p) => located(build, *mesh, tables, *p),
+            Line::Drive(ends, room) => driven(build, *mesh, tables, *ends, *room),
             Line::Correction(p) => corrected(build.correction(*mesh, &mut tables.lend(), *p)),
             Line::Set(point, numbers) => {
                 let refusal = build.set_correction(*mesh, &mut tables.lend(), *point, *numbers);

@@ -2,7 +2,7 @@
 
 use std::fmt;
 
-use crate::call::{Answer, Call, Left};
+use crate::call::{Answer, Call, Left, NO_CELL};
 use crate::guarded::{Guarded, GuardedTables};
 use crate::tally::{is_reachable, outcome_name, ACCEPTED};
 
@@ -49,6 +49,7 @@ pub fn difference(left: &Left, right: &Left) -> Option<String> {
         .or_else(|| differs("numbers", &lent.numbers, &other.numbers))
         .or_else(|| differs("input", &lent.input, &other.input))
         .or_else(|| differs("output", &lent.output, &other.output))
+        .or_else(|| differs("cells", &lent.cells, &other.cells))
 }
 
 /// Of what both left alike.
@@ -56,6 +57,7 @@ pub fn wrong_with_both(call: &Call, before: &GuardedTables, left: &Left) -> Opti
     wrong_work(call, before, &left.tables)
         .or_else(|| wrong_corrections(call, before, left))
         .or_else(|| wrong_input(call, left))
+        .or_else(|| wrong_list(left))
         .or_else(|| unreachable_answer(call, left))
 }
 
@@ -104,6 +106,17 @@ fn wrong_input(call: &Call, left: &Left) -> Option<String> {
     };
     let is_changed = is_list_changed || left.others.input.lent() != call.input();
     is_changed.then(|| "input: written".to_string())
+}
+
+/// Of a drive: entries past the listed cells stay, and all of them where it is refused.
+fn wrong_list(left: &Left) -> Option<String> {
+    let listed = match left.answer {
+        Answer::Counted(counted) => counted.count as usize,
+        _ => 0,
+    };
+    let beyond = left.others.cells.lent().get(listed..)?;
+    let place = beyond.iter().position(|&entry| entry != NO_CELL)?;
+    Some(format!("cells[{}]: written", listed + place))
 }
 
 fn unreachable_answer(call: &Call, left: &Left) -> Option<String> {

@@ -11,7 +11,7 @@ const INSERTION: &[u8] = &[ACCEPTED, 1, 2, 3, 4, 5, 6, 8, 12];
 
 /// The outcomes of each call that some input reaches. 7 is not among them: it is proved never to occur, and a
 /// comparison that meets one stops.
-const REACHABLE: [(&str, &[u8]); 15] = [
+const REACHABLE: [(&str, &[u8]); 16] = [
     ("start", &[ACCEPTED, 1, 2]),
     ("insert", INSERTION),
     ("insert_answers", INSERTION),
@@ -19,6 +19,7 @@ const REACHABLE: [(&str, &[u8]); 15] = [
     ("insert_marked", &[ACCEPTED, 1, 2, 3, 4, 5, 6, 8, 12, 14]),
     ("insert_list", INSERTION),
     ("locate", &[ACCEPTED, 1, 2, 3, 4]),
+    ("drive_cells", &[ACCEPTED, 1, 2, 3, 4, 10]),
     ("correction", &[ACCEPTED, 1, 2, 3, 4, 12]),
     ("set_correction", &[ACCEPTED, 1, 2, 3, 12, 13]),
     ("check", &[ACCEPTED, NO]),
@@ -113,6 +114,7 @@ mod tests {
             assert!(!is_reachable(call, 7));
         }
         assert!(!is_reachable("start", 12) && !is_reachable("locate", 12));
+        assert!(!is_reachable("drive_cells", 7) && !is_reachable("drive_cells", 12));
         assert!(!is_reachable("look", 14) && !is_reachable("insert_marked", 10));
     }
 }

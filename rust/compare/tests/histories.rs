@@ -223,6 +223,10 @@ fn a_bad_line_is_named() {
         after("check\ncell 18 0 1 3 7 - - - -"),
         "line 3: no room for a cell 18"
     );
+    let drive = "line 2: not two positions and a length";
+    assert_eq!(after("drive 0 0 0 4 4 4"), drive);
+    assert_eq!(after("drive 0 0 0 4 4 x 6"), "line 2: x: no number");
+    assert_eq!(after("drive 0 0 0 4 4 4 -1"), "line 2: -1: no number");
     assert_eq!(after("correction 1 2"), "line 2: not three numbers");
     assert_eq!(after("set 8 1 -2"), "line 2: not three numbers");
     assert_eq!(after("set -1 1 2 3"), "line 2: -1: no number");

@@ -16,7 +16,7 @@ fn no_difference() {
     let (status, text) = run("--left tuned --right plain --calls 500");
     assert_eq!(status, Some(0), "{text}");
     assert!(text.starts_with("tuned and plain: "));
-    assert_eq!(text.lines().count(), 17);
+    assert_eq!(text.lines().count(), 18);
 }
 
 #[test]

@@ -3,8 +3,8 @@
 use compare::{run, Builder, Stop, Tuned};
 use plain::corrections::Correction;
 use plain::{
-    Answers, Corrected, Inserted, Listed, Located, Looked, Mesh, Position, Read, Sphere, Started,
-    Tables, Written,
+    Answers, Corrected, Counted, Inserted, Listed, Located, Looked, Mesh, Position, Read, Sphere,
+    Started, Tables, Written,
 };
 
 #[derive(Clone, Copy, PartialEq)]
@@ -50,6 +50,14 @@ enum Harm {
     CorrectionByLook,
     /// A refused reading gives a number.
     CorrectionRead,
+    /// A drive changes an entry past the listed cells.
+    CellBeyond,
+    /// A refused drive changes an entry.
+    CellRefused,
+    /// A refused drive has a count.
+    CountRefused,
+    /// A drive gives its last cell another number.
+    LastCell,
 }
 
 /// `tuned` with one harm done.
@@ -172,6 +180,27 @@ impl Builder for Harmed {
         answer
     }
 
+    fn drive_cells(
+        &self,
+        mesh: Mesh,
+        tables: &mut Tables,
+        ends: [Position; 2],
+        cells: &mut [u16],
+    ) -> Counted {
+        let mut answer = Tuned.drive_cells(mesh, tables, ends, cells);
+        let place = match (self.0, answer.refusal) {
+            (Harm::CellBeyond, 0) => answer.count as usize,
+            (Harm::CellRefused, 1..) => 0,
+            (Harm::LastCell, 0) => answer.count as usize - 1,
+            _ => cells.len(),
+        };
+        cells.iter_mut().skip(place).take(1).for_each(|c| *c ^= 1);
+        if self.0 == Harm::CountRefused && answer.refusal != 0 {
+            answer.count = 1;
+        }
+        answer
+    }
+
     fn correction(&self, mesh: Mesh, tables: &mut Tables, p: Position) -> Corrected {
         let mut answer = Tuned.correction(mesh, tables, p);
         if self.0 == Harm::CorrectionRead && answer.refusal != 0 {
@@ -241,6 +270,10 @@ fn every_harm_is_found() {
         (Harm::CorrectionRefused, "corrections["),
         (Harm::CorrectionByLook, "corrections["),
         (Harm::CorrectionRead, "answer: "),
+        (Harm::CellBeyond, "cells["),
+        (Harm::CellRefused, "cells["),
+        (Harm::CountRefused, "answer: "),
+        (Harm::LastCell, "cells["),
     ];
     for (harm, what) in cases {
         for stop in [stop(harm, Harm::None), stop(Harm::None, harm)] {
@@ -265,6 +298,15 @@ fn corrections_that_both_write_are_found() {
         let stop = stop(harm, harm).expect("a stop");
         assert!(!stop.is_difference);
         assert_eq!(stop.what, "corrections: written");
+    }
+}
+
+#[test]
+fn entries_beyond_a_list_that_both_write_are_found() {
+    for harm in [Harm::CellBeyond, Harm::CellRefused] {
+        let stop = stop(harm, harm).expect("a stop");
+        assert!(!stop.is_difference);
+        assert!(stop.what.starts_with("cells[") && stop.what.ends_with("]: written"));
     }
 }
 

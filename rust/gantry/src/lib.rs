@@ -38,6 +38,19 @@
 //! # Ok::<(), Refusal>(())
 //! ```
 //!
+//! Which cells a straight drive from one position to another touches:
+//!
+//! ```
+//! use gantry::{Mesh, Refusal};
+//!
+//! let mut mesh = Mesh::start(2_000, 1_200, 800)?;
+//! mesh.insert_list(&[[500, 400, 300], [1_500, 400, 300], [1_000, 900, 600]]).unwrap();
+//! let cells = mesh.drive_cells([200, 300, 500], [1_900, 700, 300])?;
+//! assert_eq!(cells, [5, 6, 13, 18, 19, 25, 27]);
+//! assert!(cells.contains(&mesh.locate([200, 300, 500])?));
+//! # Ok::<(), Refusal>(())
+//! ```
+//!
 //! A node file to a mesh, and back:
 //!
 //! ```

@@ -104,8 +104,8 @@ impl Look {
 
 /// Cells over the nodes of a box, with their tables.
 ///
-/// All calls take `&mut self`, [`look`](Mesh::look), [`locate`](Mesh::locate), [`correction`](Mesh::correction) and
-/// [`check`](Mesh::check) too: each is lent the work area.
+/// All calls take `&mut self`, [`look`](Mesh::look), [`locate`](Mesh::locate), [`drive_cells`](Mesh::drive_cells),
+/// [`correction`](Mesh::correction) and [`check`](Mesh::check) too: each is lent the work area.
 ///
 /// Two are equal where box, room and all table entries are: then every call answers alike on both.
 ///
@@ -398,6 +398,39 @@ impl Mesh {
         let located = raw::locate(record, &mut tables, p);
         accepted(located.refusal)?;
         Ok(located.cell as usize)
+    }
+
+    /// The cells on a straight drive from `a` to `b`, by rising number: every cell that shares at least one place with the
+    /// segment, ends and fractions of a step included, and no other. A cell that is touched in a single point is among them.
+    /// Refused with [`Refusal::Outside`] where an end is outside the box.
+    ///
+    /// ```
+    /// use gantry::{Mesh, Refusal};
+    ///
+    /// let mut mesh = Mesh::start(4, 4, 4)?;
+    /// assert_eq!(mesh.drive_cells([3, 0, 1], [3, 4, 1])?, [0, 1, 5]);
+    /// assert_eq!(mesh.drive_cells([3, 4, 1], [3, 0, 1])?, [0, 1, 5]);
+    /// assert_eq!(mesh.drive_cells([3, 0, 1], [3, 5, 1]), Err(Refusal::Outside));
+    /// # Ok::<(), Refusal>(())
+    /// ```
+    ///
+    /// Where both ends are the same, it is the cells that hold the position:
+    ///
+    /// ```
+    /// use gantry::Mesh;
+    ///
+    /// let mut mesh = Mesh::start(4, 4, 4)?;
+    /// assert_eq!(mesh.drive_cells([2, 2, 1], [2, 2, 1])?, [0, 1]);
+    /// assert_eq!(mesh.locate([2, 2, 1]), Ok(0));
+    /// # Ok::<(), gantry::Refusal>(())
+    /// ```
+    pub fn drive_cells(&mut self, a: Position, b: Position) -> Result<Vec<usize>, Refusal> {
+        let mut cells = vec![0; self.record.cells as usize];
+        let (record, mut tables, _) = self.lend();
+        let counted = raw::drive_cells(record, &mut tables, [a, b], &mut cells);
+        accepted(counted.refusal)?;
+        cells.truncate(counted.count as usize);
+        Ok(cells.into_iter().map(usize::from).collect())
     }
 
     /// The correction of a position: on each axis the mean of those of the four corners of its cell, weighed with their

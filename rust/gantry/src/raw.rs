@@ -125,6 +125,16 @@ pub struct Located {
     pub cell: u32,
 }
 
+/// `gantry_counted`
+#[repr(C)]
+#[derive(Clone, Copy, Debug)]
+pub struct Counted {
+    /// 0 for accepted, else the refusal's number.
+    pub refusal: u8,
+    /// How many cells were listed.
+    pub count: u32,
+}
+
 /// `gantry_corrected`
 #[repr(C)]
 #[derive(Clone, Copy, Debug)]
@@ -250,6 +260,13 @@ unsafe extern "C" {
         neighbours: *mut u16, neighbours_len: usize, work: *mut u16, work_len: usize,
         x: u32, y: u32, z: u32,
     ) -> Located;
+    fn gantry_drive_cells(
+        mesh: Record,
+        points: *mut u32, points_len: usize, corners: *mut u16, corners_len: usize,
+        neighbours: *mut u16, neighbours_len: usize, work: *mut u16, work_len: usize,
+        ax: u32, ay: u32, az: u32, bx: u32, by: u32, bz: u32,
+        cells: *mut u16, cells_len: usize,
+    ) -> Counted;
     fn gantry_correction(
         mesh: Record,
         points: *mut u32, points_len: usize, corners: *mut u16, corners_len: usize,
@@ -393,6 +410,19 @@ pub fn locate(mesh: Record, tables: &mut Tables, [x, y, z]: Position) -> Located
     call!(gantry_locate(mesh; tables; x, y, z))
 }
 
+/// `gantry_drive_cells`: the numbers of the cells that share a place with the segment from one position to the other, rising;
+/// entries beyond stay. Refusals 1 2 3 4 10.
+pub fn drive_cells(
+    mesh: Record,
+    tables: &mut Tables,
+    [a, b]: [Position; 2],
+    cells: &mut [u16],
+) -> Counted {
+    call!(gantry_drive_cells(
+        mesh; tables; a[0], a[1], a[2], b[0], b[1], b[2], cells.as_mut_ptr(), cells.len()
+    ))
+}
+
 /// `gantry_correction`: the correction of a position, by the corrections of the located cell's corners. Refusals 1 2 3 4 12 7.
 pub fn correction(
     mesh: Record,
@@ -464,6 +494,7 @@ const _: () = {
     assert!(size_of::<Listed>() == 36 && offset_of!(Listed, mesh) == 4);
     assert!(offset_of!(Listed, place) == 32);
     assert!(size_of::<Located>() == 8 && offset_of!(Located, cell) == 4);
+    assert!(size_of::<Counted>() == 8 && offset_of!(Counted, count) == 4);
     assert!(size_of::<Corrected>() == 16 && offset_of!(Corrected, x) == 4);
     assert!(offset_of!(Corrected, y) == 8 && offset_of!(Corrected, z) == 12);
     assert!(size_of::<Sphere>() == 16 && offset_of!(Sphere, answer) == 1);

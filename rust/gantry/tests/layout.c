@@ -42,6 +42,9 @@ AT(gantry_listed, place, 32);
 SIZE(gantry_located, 8);
 AT(gantry_located, refusal, 0);
 AT(gantry_located, cell, 4);
+SIZE(gantry_counted, 8);
+AT(gantry_counted, refusal, 0);
+AT(gantry_counted, count, 4);
 SIZE(gantry_corrected, 16);
 AT(gantry_corrected, refusal, 0);
 AT(gantry_corrected, x, 4);
@@ -83,6 +86,7 @@ gantry_looked gantry_look(gantry_mesh, TABLES, CORRECTIONS_READ, uint8_t *, size
 gantry_inserted gantry_insert_marked(gantry_mesh, TABLES, CORRECTIONS, const uint8_t *, size_t, POSITION);
 gantry_listed gantry_insert_list(gantry_mesh, TABLES, CORRECTIONS, const uint32_t *, size_t);
 gantry_located gantry_locate(gantry_mesh, TABLES, POSITION);
+gantry_counted gantry_drive_cells(gantry_mesh, TABLES, POSITION, POSITION, uint16_t *, size_t);
 gantry_corrected gantry_correction(gantry_mesh, TABLES, CORRECTIONS_READ, POSITION);
 uint8_t gantry_set_correction(gantry_mesh, TABLES, CORRECTIONS, uint32_t, SIGNED_POSITION);
 bool gantry_check(gantry_mesh, TABLES);

@@ -202,6 +202,20 @@ pub struct Located {
     pub cell: u32,
 }
 
+/// How many cells were listed.
+#[repr(C)]
+#[derive(Clone, Copy, Debug, Default, PartialEq, Eq)]
+pub struct Counted {
+    pub refusal: u8,
+    pub count: u32,
+}
+
+impl Counted {
+    pub fn refused(refusal: u8) -> Counted {
+        Counted { refusal, count: 0 }
+    }
+}
+
 /// A position's correction on each axis.
 #[repr(C)]
 #[derive(Clone, Copy, Debug, Default, PartialEq, Eq)]

@@ -7,6 +7,7 @@ pub mod calls;
 pub mod cavity;
 pub mod check;
 pub mod corrections;
+pub mod drive;
 pub mod found;
 pub mod geometry;
 pub mod insertion;
@@ -24,6 +25,7 @@ pub mod star;
 pub use calls::*;
 pub use check::{check, check_with};
 pub use corrections::{correction, correction_with, set_correction, set_correction_with};
+pub use drive::{drive_cells, drive_cells_with};
 pub use geometry::{sphere_test, sphere_test_with, volume6, OUT_OF_RANGE};
 pub use insertion::{
     insert, insert_answers, insert_list, insert_list_with, insert_marked, insert_marked_with,

@@ -1,9 +1,13 @@
 //! The rules of documents 01 and 02 that a build is known, or likely, to get wrong. They are right as they stand here; a
 //! wrong build gives one of them another body.
 
+use std::cmp::Ordering;
+use std::ops::Range;
+
 use crate::calls::{Mesh, Position, Tables, NONE};
 use crate::cavity::{Answers, Candidate, Cavity, Face};
 use crate::corrections::Correction;
+use crate::drive::{Fraction, Interval};
 use crate::found::Found;
 use crate::loaded::{Chain, End, Loaded};
 use crate::numbers::{self, Free};
@@ -152,6 +156,38 @@ pub trait Rules {
     fn order(&self, _cell: usize, mut corners: [u16; 4]) -> [u16; 4] {
         corners.sort();
         corners
+    }
+
+    /// Of a drive: "every cell"; a freed entry is none.
+    fn may_be_listed(&self, is_freed: bool) -> bool {
+        !is_freed
+    }
+
+    /// Of a drive: the faces whose half-spaces, together, are a cell.
+    fn half_spaces(&self) -> Range<usize> {
+        0..4
+    }
+
+    /// Of a drive: does it enter a half-space in which its ends have these signed volumes, and not leave it? Where it enters one,
+    /// the parameters have a lower bound.
+    fn is_entering(&self, from: i128, to: i128) -> bool {
+        from < to
+    }
+
+    /// Of a drive: two parameters, exactly.
+    fn compared(&self, one: Fraction, other: Fraction) -> Ordering {
+        let [one, other] = one.products(other);
+        one.cmp(&other)
+    }
+
+    /// Of a drive: "at least one place", "ends included". The parameters are those that all half-spaces leave.
+    fn has_a_place(&self, shared: Interval) -> bool {
+        self.compared(shared.lower, shared.upper).is_le()
+    }
+
+    /// Of a drive: "in rising number", as these are.
+    fn listed(&self, cells: Vec<usize>) -> Vec<usize> {
+        cells
     }
 
     /// Entries of a correction table for so many points of capacity: fewer "than three entries for each point of capacity is 1".

@@ -5,16 +5,17 @@ mod common;
 use common::Kit;
 use plain::{Inserted, Listed, Located, Mesh, Owned, Read, Sphere, Started, Written, OUT_OF_RANGE};
 
-/// Calls every mesh call and gives the refusals: insert, answers, list, locate, look, marks, write.
-fn refusals(mesh: Mesh, tables: &mut Owned) -> [u8; 7] {
+/// Calls every mesh call and gives the refusals: insert, answers, list, locate, drive, look, marks, write.
+fn refusals(mesh: Mesh, tables: &mut Owned) -> [u8; 8] {
     let before = tables.clone();
     let bytes = vec![0; (mesh.used as usize).min(5_000)];
-    let mut out = [9; 64];
+    let (mut out, mut cells) = ([9; 64], [9; 64]);
     let refusals = [
         plain::insert(mesh, &mut tables.lend(), [9, 9, 9]).refusal,
         plain::insert_answers(mesh, &mut tables.lend(), &bytes, [9, 9, 9]).refusal,
         plain::insert_list(mesh, &mut tables.lend(), &[9, 9, 9]).refusal,
         plain::locate(mesh, &mut tables.lend(), [9, 9, 9]).refusal,
+        plain::drive_cells(mesh, &mut tables.lend(), [[9, 9, 9]; 2], &mut cells).refusal,
         plain::look(mesh, &mut tables.lend(), &mut out[..3], [9, 9, 9]).refusal,
         plain::insert_marked(mesh, &mut tables.lend(), &out[..3], [9, 9, 9]).refusal,
         plain::write_nodes(mesh, &mut tables.lend(), &mut out[..3]).refusal,
@@ -23,14 +24,17 @@ fn refusals(mesh: Mesh, tables: &mut Owned) -> [u8; 7] {
     assert_eq!(before.corners, tables.corners);
     assert_eq!(before.neighbours, tables.neighbours);
     assert_eq!(before.points, tables.points);
-    assert_eq!(out, [9; 64]);
+    assert_eq!((out, cells), ([9; 64], [9; 64]));
     refusals
 }
 
 #[test]
 fn short_tables() {
     let Kit { mesh, tables } = Kit::started([4; 3], 8, 6);
-    assert_eq!(refusals(mesh, &mut tables.clone()), [4, 4, 4, 4, 4, 4, 10]);
+    assert_eq!(
+        refusals(mesh, &mut tables.clone()),
+        [4, 4, 4, 4, 4, 4, 4, 10]
+    );
     let cuts: [fn(&mut Owned); 4] = [
         |t| t.points.truncate(23),
         |t| t.corners.truncate(23),
@@ -43,7 +47,7 @@ fn short_tables() {
         short.work.fill(7);
         // 1 comes before 2 and 3.
         let wild = Mesh { x: 0, ..mesh };
-        assert_eq!(refusals(wild, &mut short), [1; 7]);
+        assert_eq!(refusals(wild, &mut short), [1; 8]);
         assert!(!plain::check(mesh, &mut short.lend()));
         short.work.fill(7);
         let started = plain::start([0; 3], &mut short.lend());
@@ -96,7 +100,7 @@ fn sides_out_of_range() {
             let started = plain::start(mesh.sides(), &mut kit.tables.lend());
             assert_eq!(started, Started::refused(2));
             let wild = Mesh { cells: 0, ..mesh };
-            assert_eq!(refusals(wild, &mut kit.tables), [2; 7]);
+            assert_eq!(refusals(wild, &mut kit.tables), [2; 8]);
         }
     }
 }
@@ -128,7 +132,7 @@ fn no_mesh() {
         },
     ];
     for record in records {
-        assert_eq!(refusals(record, &mut tables.clone()), [3; 7], "{record:?}");
+        assert_eq!(refusals(record, &mut tables.clone()), [3; 8], "{record:?}");
         assert!(!plain::check(record, &mut tables.clone().lend()));
     }
     let damages: [fn(&mut Owned); 7] = [
@@ -143,7 +147,7 @@ fn no_mesh() {
     for damage in damages {
         let mut damaged = tables.clone();
         damage(&mut damaged);
-        assert_eq!(refusals(mesh, &mut damaged), [3; 7]);
+        assert_eq!(refusals(mesh, &mut damaged), [3; 8]);
     }
     let mut short_work = tables.clone();
     short_work.work.truncate(18);
@@ -153,7 +157,7 @@ fn no_mesh() {
     grown.tables.work.truncate(42);
     assert!(grown.check());
     grown.tables.work.truncate(41);
-    assert_eq!(refusals(grown.mesh, &mut grown.tables), [3; 7]);
+    assert_eq!(refusals(grown.mesh, &mut grown.tables), [3; 8]);
 }
 
 /// Three of the started cells, each twice, each mated with its double: the volumes add up, and every face is named back.

@@ -8,6 +8,7 @@
 mod cavity;
 mod check;
 mod corrections;
+mod drive;
 mod geometry;
 mod insertion;
 mod locate;
@@ -18,6 +19,7 @@ mod star;
 
 pub use check::check;
 pub use corrections::{correction, set_correction};
+pub use drive::drive_cells;
 pub use geometry::{sphere_test, volume6};
 pub use insertion::{insert, insert_answers, insert_list, insert_marked};
 pub use locate::locate;
@@ -25,6 +27,6 @@ pub use look::look;
 pub use nodefile::{merge, write_nodes};
 pub use plain::{read_nodes, start};
 pub use plain::{
-    Corrected, Inserted, Listed, Located, Looked, Mesh, Owned, Position, Read, Sphere, Started,
-    Tables, Written,
+    Corrected, Counted, Inserted, Listed, Located, Looked, Mesh, Owned, Position, Read, Sphere,
+    Started, Tables, Written,
 };

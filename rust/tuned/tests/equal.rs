@@ -95,6 +95,18 @@ impl Pair {
         let left = plain::locate(self.mesh, &mut self.plain.lend(), p);
         assert_eq!(left, tuned::locate(self.mesh, &mut self.tuned.lend(), p));
     }
+
+    /// The refusal of a drive with so much room.
+    fn drive_cells(&mut self, ends: [Position; 2], room: usize) -> u8 {
+        self.tuned.work.fill(0xAAAA);
+        let [mut cells, mut other] = [vec![7; room], vec![7; room]];
+        let left = plain::drive_cells(self.mesh, &mut self.plain.lend(), ends, &mut cells);
+        let right = tuned::drive_cells(self.mesh, &mut self.tuned.lend(), ends, &mut other);
+        assert_eq!(left, right);
+        assert_eq!(self.plain, self.tuned);
+        assert_eq!(cells, other);
+        left.refusal
+    }
 }
 
 fn position(random: &mut Random, side: u32, spacing: u32) -> Position {
@@ -197,6 +209,33 @@ fn corrections() {
     }
 }
 
+/// Between whole places that are often points, in planes of faces or in walls.
+#[test]
+fn drives() {
+    let mut refusals = [0; 11];
+    for seed in 0..40 {
+        let mut random = Random::new(seed);
+        let (side, spacing) = random.pick(&[(4, 1), (16, 2), (131_072, 1), (131_072, 16_384)]);
+        let mut pair = Pair::started([side; 3], 60, 400);
+        for _ in 0..25 {
+            pair.insert(position(&mut random, side, spacing));
+            for _ in 0..6 {
+                let far = side + spacing * u32::from(random.one_in(12));
+                let ends = [0; 2].map(|_| position(&mut random, far, spacing));
+                let few = random.index(40);
+                let room = random.pick(&[400, 400, few]);
+                refusals[pair.drive_cells(ends, room) as usize] += 1;
+            }
+            let at = pair.plain.points.as_chunks().0[pair.mesh.points as usize - 1];
+            pair.drive_cells([at, position(&mut random, side, spacing)], 400);
+            pair.drive_cells([at; 2], 400);
+        }
+    }
+    for refusal in [0, 4, 10] {
+        assert!(refusals[refusal] > 0, "{refusal}: {refusals:?}");
+    }
+}
+
 #[test]
 fn lists() {
     for seed in 0..10 {
@@ -238,6 +277,14 @@ fn any_tables(mesh: Mesh, tables: &Owned) {
         tuned::look(mesh, &mut right.lend(), &mut marks[1], p)
     );
     assert_eq!(marks[0], marks[1]);
+    let mut cells = [[7; 60]; 2];
+    let ends = [p, [0, 4, 4]];
+    let counted = plain::drive_cells(mesh, &mut left.lend(), ends, &mut cells[0]);
+    assert_eq!(
+        counted,
+        tuned::drive_cells(mesh, &mut right.lend(), ends, &mut cells[1])
+    );
+    assert_eq!(cells[0], cells[1]);
     let answers = [1; 50];
     let inserted = plain::insert_answers(mesh, &mut left.lend(), &answers, p);
     assert_eq!(

@@ -1,8 +1,12 @@
 //! Wrong builds: the plain build with one rule of document 01 or 02 read wrongly, for showing that a comparison finds it. The
 //! five of document 01's list "Known wrong builds" come first, under its words.
 
+use std::cmp::Ordering;
+use std::ops::Range;
+
 use plain::cavity::{Candidate, Cavity, Face};
 use plain::corrections::Correction;
+use plain::drive::{Fraction, Interval};
 use plain::loaded::{Chain, End, Loaded};
 use plain::numbers::Free;
 use plain::packed::Packed;
@@ -14,7 +18,7 @@ pub struct Build {
     pub rules: &'static dyn Rules,
 }
 
-pub const ALL: [Build; 54] = [
+pub const ALL: [Build; 61] = [
     build("zero-visible", &ZeroVisible),
     build("coplanar-starred", &CoplanarStarred),
     build("base-removed", &BaseRemoved),
@@ -69,6 +73,13 @@ pub const ALL: [Build; 54] = [
     build("setting-mends", &SettingMends),
     build("box-corners-not-cleared", &BoxCornersNotCleared),
     build("one-entry-short", &OneEntryShort),
+    build("touching-left-out", &TouchingLeftOut),
+    build("ends-left-out", &EndsLeftOut),
+    build("one-half-space-dropped", &OneHalfSpaceDropped),
+    build("entering-taken-for-leaving", &EnteringTakenForLeaving),
+    build("high-words-compared", &HighWordsCompared),
+    build("falling-order", &FallingOrder),
+    build("freed-entries-listed", &FreedEntriesListed),
 ];
 
 const fn build(name: &'static str, rules: &'static dyn Rules) -> Build {
@@ -596,5 +607,72 @@ pub struct OneEntryShort;
 impl Rules for OneEntryShort {
     fn corrections_wanted(&self, capacity: usize) -> usize {
         RightRules.corrections_wanted(capacity).saturating_sub(1)
+    }
+}
+
+/// A cell that a drive touches in a single point is not listed.
+pub struct TouchingLeftOut;
+
+impl Rules for TouchingLeftOut {
+    fn has_a_place(&self, shared: Interval) -> bool {
+        self.compared(shared.lower, shared.upper).is_lt()
+    }
+}
+
+/// A cell that has nothing of a drive but an end of it is not listed.
+pub struct EndsLeftOut;
+
+impl Rules for EndsLeftOut {
+    fn has_a_place(&self, shared: Interval) -> bool {
+        RightRules.has_a_place(shared)
+            && self.compared(shared.lower, Fraction::ONE).is_lt()
+            && self.compared(shared.upper, Fraction::ZERO).is_gt()
+    }
+}
+
+/// The half-space of face 3 is not looked at.
+pub struct OneHalfSpaceDropped;
+
+impl Rules for OneHalfSpaceDropped {
+    fn half_spaces(&self) -> Range<usize> {
+        0..3
+    }
+}
+
+/// Where a drive enters a half-space is an upper bound, and where it leaves one a lower.
+pub struct EnteringTakenForLeaving;
+
+impl Rules for EnteringTakenForLeaving {
+    fn is_entering(&self, from: i128, to: i128) -> bool {
+        from > to
+    }
+}
+
+/// Products of two words are compared without their low 52 bits.
+pub struct HighWordsCompared;
+
+impl Rules for HighWordsCompared {
+    fn compared(&self, one: Fraction, other: Fraction) -> Ordering {
+        let [one, other] = one.products(other).map(|product| product >> 52);
+        one.cmp(&other)
+    }
+}
+
+/// The cells on a drive are listed in falling number.
+pub struct FallingOrder;
+
+impl Rules for FallingOrder {
+    fn listed(&self, mut cells: Vec<usize>) -> Vec<usize> {
+        cells.reverse();
+        cells
+    }
+}
+
+/// A freed entry is on every drive: its four corners are one point, and so it is on no side of them.
+pub struct FreedEntriesListed;
+
+impl Rules for FreedEntriesListed {
+    fn may_be_listed(&self, _is_freed: bool) -> bool {
+        true
     }
 }

@@ -8,13 +8,15 @@ use super::queries::refused_at;
 use super::{one_standard_input, survey};
 use crate::check::{conditions, is_mesh, says, Outcome};
 use crate::corrections;
+use crate::drive::Drive;
 use crate::grid::Grid;
 use crate::input::Source;
 use crate::listing;
 use crate::look::Replacing;
 use crate::survey::{Built, Survey};
+use crate::svg::Emphasis;
 use crate::words::{position, Words};
-use crate::{because, counted, grouped, Done, Failure};
+use crate::{because, counted, grouped, is_outside, Done, Failure};
 
 pub fn list(words: &Words) -> Result<Done, Failure> {
     let survey = match survey(words) {
@@ -68,15 +70,13 @@ struct Shown {
     grid: Grid,
     listed: Option<Listed>,
     replacing: Option<Replacing>,
+    drive: Option<Drive>,
     complaints: Vec<String>,
 }
 
 impl Shown {
     fn read(words: &Words) -> Result<Shown, Failure> {
-        if words.look.is_some() && words.listing.is_some() {
-            let message = "--look is at the cells that the builder makes: leave --listing out";
-            return Err(Failure::Usage(message.to_string()));
-        }
+        one_of_the_cells(words)?;
         let (file, listing) = (words.plain.first(), words.listing.as_ref());
         let corrections = words.corrections.as_ref();
         for both in [[listing, file], [corrections, file], [corrections, listing]] {
@@ -92,14 +92,16 @@ impl Shown {
             grid: Grid::from(&built.mesh),
             listed: None,
             replacing: None,
+            drive: None,
             complaints: survey.complaint(&built).into_iter().collect(),
             survey,
             built,
         };
-        match (source, words.look) {
-            (Some(source), _) => shown.with_listing(source),
-            (None, Some(node)) => shown.with_look(node),
-            (None, None) => Ok(shown),
+        match (source, words.look, words.drive) {
+            (Some(source), _, _) => shown.with_listing(source),
+            (None, Some(node), _) => shown.with_look(node),
+            (None, None, Some(ends)) => shown.with_drive(ends),
+            (None, None, None) => Ok(shown),
         }
     }
 
@@ -112,6 +114,24 @@ impl Shown {
             Err(refusal) => {
                 let why = refused_at(&self.built.mesh, "node", node, refusal);
                 self.complaints.push(why);
+                Err(self.done(String::new()).failure())
+            }
+        }
+    }
+
+    fn with_drive(mut self, ends: [[i64; 3]; 2]) -> Result<Shown, Failure> {
+        let mesh = &mut self.built.mesh;
+        match Drive::of(mesh, ends.map(position)) {
+            Ok(drive) => {
+                self.drive = Some(drive);
+                Ok(self)
+            }
+            Err(refusal) => {
+                let outside = ends
+                    .into_iter()
+                    .filter(|&end| is_outside(mesh.sides(), position(end)));
+                let why = outside.map(|end| refused_at(mesh, "end", end, refusal));
+                self.complaints.extend(why);
                 Err(self.done(String::new()).failure())
             }
         }
@@ -136,14 +156,20 @@ impl Shown {
         Ok(self)
     }
 
-    /// Where the list stopped, if it did, and what the node of a look would do.
+    /// Where the list stopped, if it did, what the node of a look would do, and how many cells are on a drive.
     fn lines(&self) -> Vec<String> {
         let stop = self.built.stopped.map(|Stopped { place, refusal }| {
             let (number, name) = (refusal.number(), refusal.name());
             format!("stopped at place {place}: refused {number} ({name})")
         });
         let look = self.replacing.as_ref().map(Replacing::summary);
-        stop.into_iter().chain(look).collect()
+        let drive = self.drive.as_ref().map(Drive::summary);
+        stop.into_iter().chain(look).chain(drive).collect()
+    }
+
+    fn emphasis(&self) -> Option<Emphasis<'_>> {
+        let look = self.replacing.as_ref().map(Emphasis::Look);
+        look.or(self.drive.as_ref().map(Emphasis::Drive))
     }
 
     /// Is the listing the one that the builder makes? Complains if not.
@@ -171,6 +197,19 @@ impl Shown {
     }
 }
 
+/// A look and a drive are both at the cells that the builder makes, and one of the two is shown.
+fn one_of_the_cells(words: &Words) -> Result<(), Failure> {
+    let at = |name: &str| format!("{name} is at the cells that the builder makes");
+    let (look, drive) = (words.look.is_some(), words.drive.is_some());
+    let message = match (look, drive, words.listing.is_some()) {
+        (true, true, _) => "--look and --drive do not go together".to_string(),
+        (true, _, true) => at("--look") + ": leave --listing out",
+        (_, true, true) => at("--drive") + ": leave --listing out",
+        _ => return Ok(()),
+    };
+    Err(Failure::Usage(message))
+}
+
 /// The first line, from 1, that two texts do not share.
 fn first_difference(one: &str, other: &str) -> Option<usize> {
     let [one, other] = [one, other].map(|text| Vec::from_iter(text.lines()));
@@ -182,9 +221,7 @@ fn first_difference(one: &str, other: &str) -> Option<usize> {
 pub fn svg(words: &Words) -> Result<Done, Failure> {
     let shown = Shown::read(words)?;
     let (lines, corrections) = (shown.lines(), shown.built.mesh.corrections());
-    let text = shown
-        .grid
-        .to_svg(&lines, shown.replacing.as_ref(), corrections);
+    let text = shown.grid.to_svg(&lines, shown.emphasis(), corrections);
     Ok(shown.done(text))
 }
 

@@ -41,6 +41,7 @@ const OF_PICTURE: &[Choice] = &[
 const OF_SVG: &[Choice] = &[
     Choice::Output,
     Choice::Look,
+    Choice::Drive,
     Choice::Corrections,
     Choice::Listing,
     Choice::Sides,
@@ -121,6 +122,8 @@ with the same number. Nothing goes in, and FILE stays as it is.",
 most 64, cells where there are at most 24. With --look, the cells that the node would replace
 are orange and thick, edges that would go are dashed, and the node is a ring. These cells are
 then numbered where there are at most 12, and their corners also where there are more points.
+With --drive, the cells that the drive touches are shown so, and the drive is a purple line with
+its ends as rings, A and B.
 With --corrections, red arrows at the points show where their corrections lead, all at one
 scale; the caption has the longest.",
         choices: OF_SVG,

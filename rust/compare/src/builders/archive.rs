@@ -1,8 +1,8 @@
 use gantry::raw::{self, Record};
 use plain::corrections::Correction;
 use plain::{
-    Answers, Corrected, Inserted, Listed, Located, Looked, Mesh, Position, Read, Sphere, Started,
-    Tables, Written,
+    Answers, Corrected, Counted, Inserted, Listed, Located, Looked, Mesh, Position, Read, Sphere,
+    Started, Tables, Written,
 };
 
 use super::Builder;
@@ -133,6 +133,19 @@ impl Builder for Archive {
     fn locate(&self, mesh: Mesh, tables: &mut Tables, p: Position) -> Located {
         let raw::Located { refusal, cell } = raw::locate(record(mesh), &mut lent(tables).0, p);
         Located { refusal, cell }
+    }
+
+    fn drive_cells(
+        &self,
+        mesh: Mesh,
+        tables: &mut Tables,
+        ends: [Position; 2],
+        cells: &mut [u16],
+    ) -> Counted {
+        let mut tables = lent(tables).0;
+        let raw::Counted { refusal, count } =
+            raw::drive_cells(record(mesh), &mut tables, ends, cells);
+        Counted { refusal, count }
     }
 
     fn correction(&self, mesh: Mesh, tables: &mut Tables, p: Position) -> Corrected {

@@ -12,8 +12,8 @@ pub use self::tuned::Tuned;
 
 use ::plain::corrections::Correction;
 use ::plain::{
-    Answers, Corrected, Inserted, Listed, Located, Looked, Mesh, Position, Read, Sphere, Started,
-    Tables, Written,
+    Answers, Corrected, Counted, Inserted, Listed, Located, Looked, Mesh, Position, Read, Sphere,
+    Started, Tables, Written,
 };
 
 /// The build with this name: plain, tuned, archive, or a wrong one.
@@ -49,6 +49,14 @@ pub trait Builder {
         -> Inserted;
     fn insert_list(&self, mesh: Mesh, tables: &mut Tables, nodes: &[u32]) -> Listed;
     fn locate(&self, mesh: Mesh, tables: &mut Tables, p: Position) -> Located;
+    /// Lists the cells on the segment between the two ends.
+    fn drive_cells(
+        &self,
+        mesh: Mesh,
+        tables: &mut Tables,
+        ends: [Position; 2],
+        cells: &mut [u16],
+    ) -> Counted;
     fn correction(&self, mesh: Mesh, tables: &mut Tables, p: Position) -> Corrected;
     /// Answers the refusal, or 0.
     fn set_correction(

@@ -1,7 +1,7 @@
 use plain::corrections::Correction;
 use plain::{
-    Answers, Corrected, Inserted, Listed, Located, Looked, Mesh, Position, Read, RightRules, Rules,
-    Sphere, Started, Tables, Written,
+    Answers, Corrected, Counted, Inserted, Listed, Located, Looked, Mesh, Position, Read,
+    RightRules, Rules, Sphere, Started, Tables, Written,
 };
 
 use super::Builder;
@@ -67,6 +67,16 @@ impl Builder for Plain {
 
     fn locate(&self, mesh: Mesh, tables: &mut Tables, p: Position) -> Located {
         plain::locate_with(self.rules, mesh, tables, p)
+    }
+
+    fn drive_cells(
+        &self,
+        mesh: Mesh,
+        tables: &mut Tables,
+        ends: [Position; 2],
+        cells: &mut [u16],
+    ) -> Counted {
+        plain::drive_cells_with(self.rules, mesh, tables, ends, cells)
     }
 
     fn correction(&self, mesh: Mesh, tables: &mut Tables, p: Position) -> Corrected {

@@ -1,7 +1,7 @@
 use plain::corrections::Correction;
 use plain::{
-    Answers, Corrected, Inserted, Listed, Located, Looked, Mesh, Position, Read, Sphere, Started,
-    Tables, Written,
+    Answers, Corrected, Counted, Inserted, Listed, Located, Looked, Mesh, Position, Read, Sphere,
+    Started, Tables, Written,
 };
 
 use super::Builder;
@@ -52,6 +52,16 @@ impl Builder for Tuned {
 
     fn locate(&self, mesh: Mesh, tables: &mut Tables, p: Position) -> Located {
         tuned::locate(mesh, tables, p)
+    }
+
+    fn drive_cells(
+        &self,
+        mesh: Mesh,
+        tables: &mut Tables,
+        ends: [Position; 2],
+        cells: &mut [u16],
+    ) -> Counted {
+        tuned::drive_cells(mesh, tables, ends, cells)
     }
 
     fn correction(&self, mesh: Mesh, tables: &mut Tables, p: Position) -> Corrected {

@@ -7,8 +7,11 @@ use compare::generate::{History, Step};
 use compare::guarded::GuardedTables;
 use compare::nodes::{self, Spread};
 use compare::{Builder, Plain, Tuned};
+use plain::drive::on_drive;
+use plain::loaded::Loaded;
 use plain::random::Random;
-use plain::{Mesh, Owned, Position};
+use plain::{Mesh, Owned, Position, Rules};
+use wrong::{EndsLeftOut, TouchingLeftOut};
 
 /// How often each situation occurred.
 #[derive(Debug, Default)]
@@ -114,3 +117,56 @@ pub fn looked(build: &dyn Builder, mesh: Mesh, tables: &Owned, p: Position) -> C
     build.look(mesh, &mut tables.clone().lend(), &mut marks, p);
     Call::InsertMarked(marks, p)
 }
+
+/// Does P lie on the segment, and not at an end of it?
+fn is_between([a, b]: [Position; 2], p: Position) -> bool {
+    let from = |q: Position| [0, 1, 2].map(|axis| i64::from(q[axis]) - i64::from(a[axis]));
+    let (along, off) = (from(b), from(p));
+    let is_on_line = (0..3).all(|k| along[k] * off[(k + 1) % 3] == along[(k + 1) % 3] * off[k]);
+    let is_inside = (0..3).all(|k| a[k].min(b[k]) <= p[k] && p[k] <= a[k].max(b[k]));
+    is_on_line && is_inside && p != a && p != b
+}
+
+/// The cells that some rules list for a drive in a mesh.
+pub fn listed_by(rules: &dyn Rules, mesh: &Loaded, ends: [Position; 2]) -> Vec<usize> {
+    let mesh = Loaded {
+        rules,
+        ..mesh.clone()
+    };
+    on_drive(&mesh, ends)
+}
+
+/// How a drive lies among the cells of a mesh. A cell that it touches in more than a point has it along an edge, within a face, or in
+/// its inside.
+#[rustfmt::skip]
+pub fn of_drive(mesh: &Loaded, ends: [Position; 2]) -> Vec<(&'static str, bool)> {
+    let ([a, b], sides) = (ends, mesh.record.sides());
+    let is_in = |&axis: &usize| a[axis] == b[axis] && [0, sides[axis]].contains(&a[axis]);
+    let walls = (0..3).filter(is_in).count();
+    let listed = on_drive(mesh, ends);
+    let longer = listed_by(&TouchingLeftOut, mesh, ends);
+    let not_at_ends = listed_by(&EndsLeftOut, mesh, ends);
+    let planes = |&c: &usize| (0..4).filter(|&i| [a, b].iter().all(|&p| mesh.side(c, i, p) == 0)).count();
+    let has = |count: usize| a != b && longer.iter().any(|c| planes(c) == count);
+    let nodes = || mesh.points.iter().enumerate().filter(|(point, _)| *point >= 8).map(|(_, &p)| p);
+    vec![
+        ("length 0", a == b),
+        ("length 0, at a node", a == b && nodes().any(|p| p == a)),
+        ("through a node", nodes().any(|p| is_between(ends, p))),
+        ("along an edge", has(2)),
+        ("within a face", has(1)),
+        ("through the inside of a cell", has(0)),
+        ("a cell is touched in one point", longer.len() < listed.len()),
+        ("a cell is touched in one point that is no end", not_at_ends.iter().any(|c| !longer.contains(c))),
+        ("a cell has an end alone", not_at_ends.len() < listed.len()),
+        ("in a wall", a != b && walls == 1),
+        ("on an edge of the box", a != b && walls == 2),
+        ("one cell has all of it", listed.len() == 1),
+        ("an end in no cell of the other", !listed.iter().any(|&c| mesh.holds(c, a) && mesh.holds(c, b))),
+        ("every cell is on it", listed.len() == mesh.cells().len()),
+        ("a freed entry between the listed cells", (listed[0]..listed[listed.len() - 1]).any(|c| mesh.is_freed(c))),
+    ]
+}
+
+/// How many these are.
+pub const OF_DRIVE: usize = 15;
