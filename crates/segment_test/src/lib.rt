@@ -1,4 +1,4 @@
-// Whether a segment touches a cell, exactly: where a face is entered before another is left, products of two volumes are compared in two words.
+// Whether a segment touches a cell, exactly: where one face is entered and another left, products of two volumes are compared in two words.
 
 ghost use Prim.Native.Nat.{ℕ, _≤_, _<_, _*_, _^_};
 ghost use mathlib.Core.Bool.{not, _&&_};
@@ -17,20 +17,23 @@ use geometry::volume::volumes_at;
 use mesh_tables::positions;
 use segment::Product;
 
-// x times y, from parts of 26 bits.
+// 2^26: a volume has two parts.
+const PART: u64 = 67108864;
+
+// x times y, from their parts.
 fn product(x: u64, y: u64) -> Product
     requires { ⌜ (x ≤ 2 ^ 52) × (y ≤ 2 ^ 52) ⌝ }
     ensures { λ r. ⌜ r ≡ productOf x y ⌝ }
 {
-    let xh = x / 67108864;
-    let xl = x % 67108864;
-    let yh = y / 67108864;
-    let yl = y % 67108864;
+    let xh = x / PART;
+    let xl = x % PART;
+    let yh = y / PART;
+    let yl = y % PART;
     let low = xl * yl;
-    let middle = xh * yl + xl * yh + low / 67108864;
+    let middle = xh * yl + xl * yh + low / PART;
     Product {
-        high: xh * yh + middle / 67108864,
-        low: middle % 67108864 * 67108864 + low % 67108864,
+        high: xh * yh + middle / PART,
+        low: middle % PART * PART + low % PART,
     }
 }
 
