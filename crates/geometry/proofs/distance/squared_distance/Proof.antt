@@ -8,18 +8,18 @@ use borrow.Author.Rules.{rules}
 use Rattle.geometry.proofs.distance.squared_distance.Statement.{statement}
 use Rattle.geometry.proofs.distance.squared_distance.Tie as tie
 
-difference-requires : tie.Need-difference-requires
+difference-requires : tie.Need-difference-u-requires
 difference-requires c κs = search rules
 
 dot-requires : tie.Need-dot-requires
 dot-requires c κs =
-    let small = difference_bounded c.difference.ensures c.before.requires.1 c.before.requires.0 in
+    let small = difference_bounded c.difference-u.ensures c.requires.1 c.requires.0 in
     (small, wider small)
 
 returns : tie.Need-returns
 unfolding squared_distance dot_product between
 returns c =
-    to_z-of_z {w = w64} (record { sfits = c.dot.type-inv }) ∙ (c.dot.ensures ∙ ap₂ dot_product c.before.difference.ensures c.before.difference.ensures)
+    to_z-of_z {w = w64} (record { sfits = c.dot.type_inv }) ∙ (c.dot.ensures ∙ ap₂ dot_product c.difference-u.ensures c.difference-u.ensures)
 
 pub squared_distance_spec : {M : Type 1} → statement M
 squared_distance_spec = tie.close (tie.spec difference-requires dot-requires returns)
