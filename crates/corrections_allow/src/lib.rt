@@ -3,7 +3,7 @@
 #![tactic(auto)]
 
 ghost use Rattle.std.specs.Prelude.{List, ◌≡◌, ℕ, ◌*◌, ◌≤◌, length};
-ghost use Rattle.mesh.specs.Tables.{tables_in, tables_before, tables_after, point_capacity};
+ghost use Rattle.mesh.specs.Tables.{point_capacity, tables};
 ghost use Rattle.cavity.specs.Answers.{answers_of};
 ghost use Rattle.cavity.specs.Inner.Growth.{Empty};
 ghost use Rattle.insertion.specs.Inner.{Starable, SomeStarable};
@@ -31,12 +31,12 @@ pub fn insert_allowed(
     ranks: &[u16],
     slots: &mut [u16],
 ) -> Attempt
-    requires { SomeStarable mesh (tables_in points corners neighbours) node state.old list.now faces.now ranks.now found
-        × Standing mesh.points corrections.old × (3 * point_capacity (tables_in points corners neighbours) ≤ length corrections.old)
+    requires { SomeStarable mesh (tables points.old corners.old neighbours.old) node state.old list.now faces.now ranks.now found
+        × Standing mesh.points corrections.old × (3 * point_capacity (tables points.old corners.old neighbours.old) ≤ length corrections.old)
         × (length slots.old ≡ 4096) }
-    ensures { ((bytes : List ℕ) → Starable mesh (tables_before points corners neighbours) bytes node state.old list.now faces.now ranks.now found →
-        AttemptKeeps asked marks.now mesh (tables_before points corners neighbours) corrections.old node.work node.position (answers_of node.handed bytes)
-        result (tables_after points corners neighbours) corrections.new)
+    ensures { ((bytes : List ℕ) → Starable mesh (tables points.old corners.old neighbours.old) bytes node state.old list.now faces.now ranks.now found →
+        AttemptKeeps asked marks.now mesh (tables points.old corners.old neighbours.old) corrections.old node.work node.position (answers_of node.handed bytes)
+        result (tables points.new corners.new neighbours.new) corrections.new)
         × (result.refusal ≡ 0 → Empty state.new list.now) }
 {
     if !marks_allow(asked, node.used, state, marks) {

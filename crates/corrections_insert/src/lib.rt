@@ -4,7 +4,7 @@
 
 ghost use Rattle.std.specs.Prelude.{true, ◌≡◌, ◌*◌, ◌≤◌, length};
 ghost use Rattle.mesh.specs.Check.{is_mesh};
-ghost use Rattle.mesh.specs.Tables.{tables_in, tables_before, tables_after, point_capacity};
+ghost use Rattle.mesh.specs.Tables.{point_capacity, tables};
 ghost use Rattle.cavity.specs.Answers.{answers_of};
 ghost use Rattle.corrections.specs.Inner.{AttemptKeeps};
 
@@ -28,10 +28,10 @@ pub fn insert_node(
     asked: bool,
     q: Position,
 ) -> Attempt
-    requires { (is_mesh mesh (tables_in points corners neighbours) work ≡ true) × (handed ≡ true → mesh.used ≤ length answers.now)
-        × (3 * point_capacity (tables_in points corners neighbours) ≤ length corrections.old) }
-    ensures { AttemptKeeps asked marks.now mesh (tables_before points corners neighbours) corrections.old work q (answers_of handed answers.now)
-        result (tables_after points corners neighbours) corrections.new }
+    requires { (is_mesh mesh (tables points.old corners.old neighbours.old) work ≡ true) × (handed ≡ true → mesh.used ≤ length answers.now)
+        × (3 * point_capacity (tables points.old corners.old neighbours.old) ≤ length corrections.old) }
+    ensures { AttemptKeeps asked marks.now mesh (tables points.old corners.old neighbours.old) corrections.old work q (answers_of handed answers.now)
+        result (tables points.new corners.new neighbours.new) corrections.new }
 {
     if out_of_range(corrections, mesh.points as usize) {
         let early = early_refusal(mesh, points, q);

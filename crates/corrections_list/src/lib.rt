@@ -3,7 +3,7 @@
 #![tactic(auto)]
 
 ghost use Rattle.std.specs.Prelude.{◌≡◌, ◌*◌, ◌≤◌, length};
-ghost use Rattle.mesh.specs.Tables.{tables_before, tables_after};
+ghost use Rattle.mesh.specs.Tables.{tables};
 ghost use Rattle.corrections.specs.Calls.{Leaves, list_with};
 ghost use Rattle.corrections.specs.Inner.{refused_nodes};
 
@@ -35,8 +35,8 @@ pub fn insert_list(
     corrections: &mut [i32],
     nodes: &[u32],
 ) -> Listed
-    ensures { Leaves (list_with mesh (tables_before points corners neighbours) corrections.old (length work.old) nodes.now) work.old
-        result (tables_after points corners neighbours) corrections.new work.new }
+    ensures { Leaves (list_with mesh (tables points.old corners.old neighbours.old) corrections.old (length work.old) nodes.now) work.old
+        result (tables points.new corners.new neighbours.new) corrections.new work.new }
 {
     clear(work);
     let w = work.len();

@@ -3,7 +3,7 @@
 #![tactic(auto)]
 
 ghost use Rattle.std.specs.Prelude.{length};
-ghost use Rattle.mesh.specs.Tables.{tables_before, tables_after};
+ghost use Rattle.mesh.specs.Tables.{tables};
 ghost use Rattle.corrections.specs.Calls.{Leaves, marked_with};
 
 use corrections_insert::insert_node;
@@ -24,8 +24,8 @@ pub fn insert_marked(
     marks: &[u8],
     q: Position,
 ) -> Inserted
-    ensures { Leaves (marked_with mesh (tables_before points corners neighbours) corrections.old (length work.old) q marks.now) work.old
-        result (tables_after points corners neighbours) corrections.new work.new }
+    ensures { Leaves (marked_with mesh (tables points.old corners.old neighbours.old) corrections.old (length work.old) q marks.now) work.old
+        result (tables points.new corners.new neighbours.new) corrections.new work.new }
 {
     clear(work);
     let w = work.len();

@@ -4,7 +4,7 @@
 
 ghost use Rattle.std.specs.Prelude.{true, ◌≡◌, ◌+◌, ◌*◌, ◌≤◌, length};
 ghost use Rattle.mesh.specs.Check.{is_mesh};
-ghost use Rattle.mesh.specs.Tables.{tables_in, tables_before, tables_after, point_capacity};
+ghost use Rattle.mesh.specs.Tables.{point_capacity, tables};
 ghost use Rattle.cavity.specs.Answers.{answers_of};
 ghost use Rattle.insertion.specs.Inner.{Scratch};
 ghost use Rattle.corrections.specs.Inner.{Standing, AttemptKeeps};
@@ -38,11 +38,11 @@ pub fn attempt_node(
     ranks: &mut [u16],
     slots: &mut [u16],
 ) -> Attempt
-    requires { (is_mesh mesh (tables_in points corners neighbours) work ≡ true) × (handed ≡ true → mesh.used ≤ length answers.now)
-        × Standing mesh.points corrections.old × (3 * point_capacity (tables_in points corners neighbours) ≤ length corrections.old)
+    requires { (is_mesh mesh (tables points.old corners.old neighbours.old) work ≡ true) × (handed ≡ true → mesh.used ≤ length answers.now)
+        × Standing mesh.points corrections.old × (3 * point_capacity (tables points.old corners.old neighbours.old) ≤ length corrections.old)
         × Scratch mesh.points state.old list.old faces.old denied.old exposed.old ranks.old × (length slots.old ≡ 4096) }
-    ensures { AttemptKeeps asked marks.now mesh (tables_before points corners neighbours) corrections.old work q (answers_of handed answers.now)
-        result (tables_after points corners neighbours) corrections.new
+    ensures { AttemptKeeps asked marks.now mesh (tables points.old corners.old neighbours.old) corrections.old work q (answers_of handed answers.now)
+        result (tables points.new corners.new neighbours.new) corrections.new
         × (result.refusal ≡ 0 → Scratch (mesh.points + 1) state.new list.new faces.new denied.new exposed.new ranks.new) }
 {
     let node = Node {

@@ -4,7 +4,7 @@
 
 ghost use Rattle.std.specs.Prelude.{true, ◌≡◌, ◌*◌, ◌≤◌, length};
 ghost use Rattle.mesh.specs.Check.{is_mesh};
-ghost use Rattle.mesh.specs.Tables.{tables_in, tables_before, tables_after, point_capacity};
+ghost use Rattle.mesh.specs.Tables.{point_capacity, tables};
 ghost use Rattle.corrections.specs.Inner.{Standing, NodesKeep};
 
 use corrections_node::attempt_node;
@@ -23,10 +23,10 @@ pub fn insert_nodes(
     work: usize,
     nodes: &[u32],
 ) -> Listed
-    requires { (is_mesh mesh (tables_in points corners neighbours) work ≡ true) × Standing mesh.points corrections.old
-        × (3 * point_capacity (tables_in points corners neighbours) ≤ length corrections.old) }
-    ensures { NodesKeep mesh (tables_before points corners neighbours) corrections.old work nodes.now
-        result (tables_after points corners neighbours) corrections.new }
+    requires { (is_mesh mesh (tables points.old corners.old neighbours.old) work ≡ true) × Standing mesh.points corrections.old
+        × (3 * point_capacity (tables points.old corners.old neighbours.old) ≤ length corrections.old) }
+    ensures { NodesKeep mesh (tables points.old corners.old neighbours.old) corrections.old work nodes.now
+        result (tables points.new corners.new neighbours.new) corrections.new }
 {
     let none = [0u8; 1];
     let mut state = [0u8; 4096];

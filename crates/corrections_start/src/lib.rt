@@ -3,7 +3,7 @@
 #![tactic(auto)]
 
 ghost use Rattle.std.specs.Prelude.{◌≡◌, ◌≤◌, length};
-ghost use Rattle.mesh.specs.Tables.{tables_before, tables_after};
+ghost use Rattle.mesh.specs.Tables.{tables};
 ghost use Rattle.corrections.specs.Calls.{Leaves, corners_cleared, start_with};
 
 use corrections_tests::too_short;
@@ -35,8 +35,8 @@ pub fn start(
     work: &mut [u16],
     corrections: &mut [i32],
 ) -> Started
-    ensures { Leaves (start_with x y z (tables_before points corners neighbours) corrections.old (length work.old)) work.old
-        result (tables_after points corners neighbours) corrections.new work.new }
+    ensures { Leaves (start_with x y z (tables points.old corners.old neighbours.old) corrections.old (length work.old)) work.old
+        result (tables points.new corners.new neighbours.new) corrections.new work.new }
 {
     if too_short(points, corrections) {
         clear(work);

@@ -6,7 +6,7 @@
 ghost use Rattle.std.specs.Prelude.{true, ◌≡◌, ◌≤◌, ◌^◌, nat_abs, length};
 ghost use Rattle.geometry.specs.Volume.{position, are_all_coordinates, volume_of_numbers};
 ghost use Rattle.insphere.specs.Sphere.{sphere_sum, sphere_call};
-ghost use Rattle.mesh.specs.Tables.{tables_before, tables_after, cleared};
+ghost use Rattle.mesh.specs.Tables.{tables_before, tables_after, cleared, tables};
 ghost use Rattle.mesh.specs.Check.{is_mesh};
 ghost use Rattle.cavity.specs.Answers.{sphere, handed};
 ghost use Rattle.corrections.specs.Calls.{set_refusal, set_table};
@@ -119,8 +119,8 @@ pub extern "C" fn gantry_start(
     work: &mut [u16],
     corrections: &mut [i32],
 ) -> GantryStarted
-    ensures { Starts x y z (tables_before points corners neighbours) work.old corrections.old
-        result (tables_after points corners neighbours) work.new corrections.new }
+    ensures { Starts x y z (tables points.old corners.old neighbours.old) work.old corrections.old
+        result (tables points.new corners.new neighbours.new) work.new corrections.new }
 {
     started(start(x, y, z, points, corners, neighbours, work, corrections))
 }
@@ -137,8 +137,8 @@ pub extern "C" fn gantry_insert(
     y: u32,
     z: u32,
 ) -> GantryInserted
-    ensures { Inserts mesh (tables_before points corners neighbours) work.old corrections.old (position x y z) sphere
-        result (tables_after points corners neighbours) work.new corrections.new }
+    ensures { Inserts mesh (tables points.old corners.old neighbours.old) work.old corrections.old (position x y z) sphere
+        result (tables points.new corners.new neighbours.new) work.new corrections.new }
 {
     let q = Position { x: x, y: y, z: z };
     let answer = insert(mesh, points, corners, neighbours, work, corrections, q);
@@ -158,8 +158,8 @@ pub extern "C" fn gantry_insert_answers(
     y: u32,
     z: u32,
 ) -> GantryInserted
-    ensures { Inserts mesh (tables_before points corners neighbours) work.old corrections.old (position x y z) (handed answers.now)
-        result (tables_after points corners neighbours) work.new corrections.new }
+    ensures { Inserts mesh (tables points.old corners.old neighbours.old) work.old corrections.old (position x y z) (handed answers.now)
+        result (tables points.new corners.new neighbours.new) work.new corrections.new }
 {
     let q = Position { x: x, y: y, z: z };
     let answer = insert_answers(
@@ -218,8 +218,8 @@ pub extern "C" fn gantry_insert_marked(
     y: u32,
     z: u32,
 ) -> GantryInserted
-    ensures { InsertsMarked mesh (tables_before points corners neighbours) work.old corrections.old (position x y z) marks.now
-        result (tables_after points corners neighbours) work.new corrections.new }
+    ensures { InsertsMarked mesh (tables points.old corners.old neighbours.old) work.old corrections.old (position x y z) marks.now
+        result (tables points.new corners.new neighbours.new) work.new corrections.new }
 {
     let q = Position { x: x, y: y, z: z };
     let answer = insert_marked(
@@ -245,8 +245,8 @@ pub extern "C" fn gantry_insert_list(
     corrections: &mut [i32],
     nodes: &[u32],
 ) -> GantryListed
-    ensures { Lists mesh (tables_before points corners neighbours) work.old corrections.old nodes.now
-        result (tables_after points corners neighbours) work.new corrections.new }
+    ensures { Lists mesh (tables points.old corners.old neighbours.old) work.old corrections.old nodes.now
+        result (tables points.new corners.new neighbours.new) work.new corrections.new }
 {
     let answer = insert_list(mesh, points, corners, neighbours, work, corrections, nodes);
     listed(mesh, answer)

@@ -3,7 +3,7 @@
 #![tactic(auto)]
 
 ghost use Rattle.std.specs.Prelude.{List, ◌≡◌, ℕ, length};
-ghost use Rattle.mesh.specs.Tables.{tables_in, tables_before, tables_after};
+ghost use Rattle.mesh.specs.Tables.{tables};
 ghost use Rattle.cavity.specs.Answers.{answers_of};
 ghost use Rattle.cavity.specs.Inner.Growth.{Empty};
 ghost use Rattle.insertion.specs.Inner.{Starable, SomeStarable, Starred};
@@ -30,9 +30,9 @@ pub fn insert_found(
     ranks: &[u16],
     slots: &mut [u16],
 ) -> Inserted
-    requires { SomeStarable mesh (tables_in points corners neighbours) node state.old list.now faces.now ranks.now found × (length slots.old ≡ 4096) }
-    ensures { ((bytes : List ℕ) → Starable mesh (tables_before points corners neighbours) bytes node state.old list.now faces.now ranks.now found →
-        Starred mesh (tables_before points corners neighbours) node.position (answers_of node.handed bytes) result (tables_after points corners neighbours))
+    requires { SomeStarable mesh (tables points.old corners.old neighbours.old) node state.old list.now faces.now ranks.now found × (length slots.old ≡ 4096) }
+    ensures { ((bytes : List ℕ) → Starable mesh (tables points.old corners.old neighbours.old) bytes node state.old list.now faces.now ranks.now found →
+        Starred mesh (tables points.old corners.old neighbours.old) node.position (answers_of node.handed bytes) result (tables points.new corners.new neighbours.new))
         × Empty state.new list.now }
 {
     let size = found.extent.after;

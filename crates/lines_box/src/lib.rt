@@ -3,7 +3,7 @@
 #![tactic(auto)]
 
 ghost use Rattle.std.specs.Prelude.{false, ◌≡◌, ◌≤◌, length};
-ghost use Rattle.mesh.specs.Tables.{tables_in, tables_before};
+ghost use Rattle.mesh.specs.Tables.{tables};
 ghost use Rattle.corrections.specs.Corrections.{out_of_range, too_short};
 ghost use Rattle.lines.specs.Listing.{nodes_text, box_text};
 ghost use Rattle.lines.specs.Inner.{Wrote, FromStart, longest};
@@ -24,9 +24,9 @@ fn list_started(
     nodes: &[u32],
     out: &mut [u8],
 ) -> usize
-    requires { FromStart mesh (tables_in points corners neighbours) × (longest ≤ length out.old)
-        × (too_short (tables_in points corners neighbours) corrections.old ≡ false) × (out_of_range mesh.points corrections.old ≡ false) }
-    ensures { Wrote (nodes_text mesh (tables_before points corners neighbours) (length work.old) nodes.now)
+    requires { FromStart mesh (tables points.old corners.old neighbours.old) × (longest ≤ length out.old)
+        × (too_short (tables points.old corners.old neighbours.old) corrections.old ≡ false) × (out_of_range mesh.points corrections.old ≡ false) }
+    ensures { Wrote (nodes_text mesh (tables points.old corners.old neighbours.old) (length work.old) nodes.now)
         out.old 0 result out.new }
 {
     let answer = insert_list(mesh, points, corners, neighbours, work, corrections, nodes);
@@ -46,7 +46,7 @@ pub fn list_nodes(
     out: &mut [u8],
 ) -> usize
     requires { longest ≤ length out.old }
-    ensures { Wrote (box_text x y z (tables_before points corners neighbours) (length work.old) nodes.now)
+    ensures { Wrote (box_text x y z (tables points.old corners.old neighbours.old) (length work.old) nodes.now)
         out.old 0 result out.new }
 {
     let mut corrections = [0i32; 3072];

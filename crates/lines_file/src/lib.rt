@@ -3,7 +3,7 @@
 #![tactic(auto)]
 
 ghost use Rattle.std.specs.Prelude.{◌≤◌, length};
-ghost use Rattle.mesh.specs.Tables.{tables_before};
+ghost use Rattle.mesh.specs.Tables.{tables};
 ghost use Rattle.nodefile.specs.Read.{nodes as fileNodes, read_answer};
 ghost use Rattle.lines.specs.Listing.{read_text, listing as listingOf};
 ghost use Rattle.lines.specs.Inner.{Wrote, longest};
@@ -24,7 +24,7 @@ fn list_file(
     out: &mut [u8],
 ) -> usize
     requires { longest ≤ length out.old }
-    ensures { Wrote (read_text (read_answer file.now (length nodes.old)) (tables_before points corners neighbours) (length work.old) (fileNodes file.now))
+    ensures { Wrote (read_text (read_answer file.now (length nodes.old)) (tables points.old corners.old neighbours.old) (length work.old) (fileNodes file.now))
         out.old 0 result out.new }
 {
     let answer = read_nodes(file, nodes);

@@ -65,7 +65,7 @@ module _ (m : Mesh) (t : Tables) (w : ℕ) where
   pub some_mesh : is_mesh m t w ≡ true → SomeMesh t m.points m.used
   some_mesh e = record { X = m.x; Y = m.y; Z = m.z; w = w; mesh = (valid_of e).mesh }
 
-  pub in_range : is_mesh m t w ≡ true → {q : Position} → in_box m.x m.y m.z q ≡ true → InRange q
+  pub in_range_lem : is_mesh m t w ≡ true → {q : Position} → in_box m.x m.y m.z q ≡ true → InRange q
   in_range_lem e {q} h =
       let k = (valid_of e).mesh in
       let b = box_in {X = m.x} {Y = m.y} {Z = m.z} {p = q} h in

@@ -3,7 +3,7 @@
 #![tactic(auto)]
 
 ghost use Rattle.std.specs.Prelude.{◌≡◌, ◌≤◌, ◌<◌, length};
-ghost use Rattle.mesh.specs.Tables.{tables_before, tables_after};
+ghost use Rattle.mesh.specs.Tables.{tables};
 ghost use Rattle.mesh.specs.Start.{over, start_points, start_corners, start_neighbours, StartLeaves};
 ghost use Rattle.mesh.specs.Inner.{cell_at, start_refusal_of};
 
@@ -95,8 +95,8 @@ pub fn start(
     neighbours: &mut [u16],
     work: &mut [u16],
 ) -> Started
-    ensures { StartLeaves x y z (tables_before points corners neighbours) work.old
-        result (tables_after points corners neighbours) work.new }
+    ensures { StartLeaves x y z (tables points.old corners.old neighbours.old) work.old
+        result (tables points.new corners.new neighbours.new) work.new }
 {
     clear(work);
     let refusal = start_refusal(

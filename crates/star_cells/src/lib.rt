@@ -3,7 +3,7 @@
 #![tactic(auto)]
 
 ghost use Rattle.std.specs.Prelude.{true, ◌≢◌, ◌≡◌, ◌+◌, ◌*◌, ◌<◌, get_or};
-ghost use Rattle.mesh.specs.Tables.{none, tables_in, tables_before};
+ghost use Rattle.mesh.specs.Tables.{none, tables};
 ghost use Rattle.mesh.specs.Inner.{HasCell, with_four};
 ghost use Rattle.cavity.specs.Cavity.{in_set};
 ghost use Rattle.cavity.specs.Inner.{set_of};
@@ -93,9 +93,9 @@ pub fn star_faces(
     ranks: &[u16],
     slots: &[u16],
 )
-    requires { Starring (tables_in points corners neighbours) node.points node.used node.position
+    requires { Starring (tables points.now corners.old neighbours.old) node.points node.used node.position
         state.now list.now size faces.now ranks.now slots.now }
-    ensures { (b : Starring (tables_before points corners neighbours) node.points node.used node.position
+    ensures { (b : Starring (tables points.now corners.old neighbours.old) node.points node.used node.position
         state.now list.now size faces.now ranks.now slots.now) →
         AllStarred b corners.new neighbours.new }
 {

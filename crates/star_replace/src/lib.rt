@@ -3,7 +3,7 @@
 #![tactic(auto)]
 
 ghost use Rattle.std.specs.Prelude.{◌≡◌};
-ghost use Rattle.mesh.specs.Tables.{tables_in, tables_before, tables_after};
+ghost use Rattle.mesh.specs.Tables.{tables};
 ghost use Rattle.cavity.specs.Inner.{set_of};
 ghost use Rattle.star.specs.Star.{star, chain_after};
 ghost use Rattle.star.specs.Inner.{Replacing};
@@ -28,13 +28,13 @@ pub fn replace_cavity(
     slots: &[u16],
     rest: u16,
 ) -> u16
-    requires { Replacing (tables_in points corners neighbours) node.points node.used node.position
+    requires { Replacing (tables points.old corners.old neighbours.old) node.points node.used node.position
         state.now list.now size faces.now ranks.now slots.now rest }
-    ensures { (b : Replacing (tables_before points corners neighbours) node.points node.used node.position
+    ensures { (b : Replacing (tables points.old corners.old neighbours.old) node.points node.used node.position
         state.now list.now size faces.now ranks.now slots.now rest) →
-        (tables_after points corners neighbours
-        ≡ star b.starring.ch (tables_before points corners neighbours) node.used node.position node.points (set_of node.used state.now))
-        × (result ≡ chain_after b.starring.ch (tables_before points corners neighbours) node.used node.position (set_of node.used state.now)) }
+        (tables points.new corners.new neighbours.new
+        ≡ star b.starring.ch (tables points.old corners.old neighbours.old) node.used node.position node.points (set_of node.used state.now))
+        × (result ≡ chain_after b.starring.ch (tables points.old corners.old neighbours.old) node.used node.position (set_of node.used state.now)) }
 {
     star_faces(
         points, corners, neighbours, node, state, list, size, faces, ranks, slots,

@@ -11,55 +11,55 @@ use borrow.Author.Rules.{rules}
 use Rattle.cavity_base.proofs.answer_of.Statement.{statement}
 use Rattle.cavity_base.proofs.answer_of.Tie as tie
 
-corners_are : (c : tie.After-four-at) → Cornered c.before.before.before.before.before.before.before.args.points.now c.four-at.result
-corners_are c = let s = c.before.before.before.before.before.before.before in subst (Cornered _) (sym c.four-at.ensures) (cornered s.requires.0.mesh _ s.requires.1)
+corners_are : (c : tie.After-four_at) → Cornered c.args.points.now c.four_at.result
+corners_are c = let s = c.before.before.before.before.before.before.before in subst (Cornered _) (sym c.four_at.ensures) (cornered s.requires.0.mesh _ s.requires.1)
 
-abbrev start : tie.After-sphere-answer → tie.Start
+abbrev start : tie.After-sphere_answer-sphere → tie.Start
 start c = c.before.before.before.before.before.before.before.before.before
 
-answer_here : (c : tie.After-sphere-answer) → let a = (start c).args in let t = tables a.points.now a.corners.now a.neighbours.now in
-    c.sphere-answer.result ≡ sphere_answer (corner_at t a.c 0) (corner_at t a.c 1) (corner_at t a.c 2) (corner_at t a.c 3) a.node.position
+answer_here : (c : tie.After-sphere_answer-sphere) → let a = (start c).args in let t = tables a.points.now a.corners.now a.neighbours.now in
+    c.sphere_answer-sphere.result ≡ sphere_answer (corner_at t a.c 0) (corner_at t a.c 1) (corner_at t a.c 2) (corner_at t a.c 3) a.node.position
 answer_here c =
     let a = (start c).args in
-    c.sphere-answer.ensures ∙
-    (ap (λ k. sphere_answer k.a k.b k.c k.d a.node.position) (c.before.positions.ensures ∙ ap (positions_of a.points.now) c.before.before.four-at.ensures) ∙
+    c.sphere_answer-sphere.ensures ∙
+    (ap (λ k. sphere_answer k.a k.b k.c k.d a.node.position) (c.positions.ensures ∙ ap (positions_of a.points.now) c.four_at.ensures) ∙
     read_answer a.points.now a.corners.now a.neighbours.now a.c a.node.position)
 
-shared-slice-read-t14 : tie.Need-shared-slice-read-t14
-shared-slice-read-t14 c = let s = c.before.before.before.before.before.before in omega (arith, s.requires.1.below, s.requires.0.answered c.before.if1.true)
+shared-slice-read-t14 : tie.Need-bounds-answers-c
+shared-slice-read-t14 c = let s = c.before.before.before.before.before.before in omega (arith, s.requires.1.below, s.requires.0.answered c.if-handed.true)
 
-returns : tie.Need-returns
+returns : tie.Need-returns-then-handed
 unfolding of_bits
 returns c =
     let s = c.before.before.before.before.before.before in
-    answered_by_byte (tables s.args.points.now s.args.corners.now s.args.neighbours.now) s.args.node.position s.args.c s.args.node.handed s.args.answers.now c.before.if1.true
+    answered_by_byte (tables s.args.points.now s.args.corners.now s.args.neighbours.now) s.args.node.position s.args.c s.args.node.handed s.args.answers.now c.if-handed.true
 
-four-at-requires : tie.Need-four-at-requires
+four-at-requires : tie.Need-four_at-requires
 four-at-requires c κs = let s = c.before.before.before.before.before.before in has_corners s.requires.0.mesh _ s.requires.1.below
 
 positions-requires : tie.Need-positions-requires
 positions-requires c κs = (corners_are c).has
 
-sphere-answer-requires : tie.Need-sphere-answer-requires
-sphere-answer-requires c κs = (read_in_range c.positions.ensures (corners_are c.before), c.before.before.before.before.before.before.before.before.requires.0.position)
+sphere-answer-requires : tie.Need-sphere_answer-sphere-requires
+sphere-answer-requires c κs = (read_in_range c.positions.ensures (corners_are c.before), c.requires.0.position)
 
-enum-known-sphere : tie.Need-enum-known-sphere
+enum-known-sphere : tie.Need-enum_known-sphere
 enum-known-sphere c = search rules
 
-enum-known-sphere-2 : tie.Need-enum-known-sphere-2
+enum-known-sphere-2 : tie.Need-enum_known-sphere-in-Outside-1
 enum-known-sphere-2 c = search rules
 
-returns-2 : tie.Need-returns-2
+returns-2 : tie.Need-returns-in-Inside
 returns-2 c =
     let j = c.before.before.before in
     let s = start j in
-    answered_by_sphere _ _ _ s.args.answers.now j.before.before.before.before.if1.false _ (sym c.before.sphere.given.1 ∙ answer_here j)
+    answered_by_sphere _ _ _ s.args.answers.now j.if-handed.false _ (sym c.before.sphere.given.1 ∙ answer_here j)
 
-returns-3 : tie.Need-returns-3
+returns-3 : tie.Need-returns-in-Outside
 returns-3 c =
     let j = c.before.before.before in
     let s = start j in
-    answered_by_sphere _ _ _ s.args.answers.now j.before.before.before.before.if1.false _ (sym c.before.sphere2.given.1 ∙ answer_here j)
+    answered_by_sphere _ _ _ s.args.answers.now j.if-handed.false _ (sym c.sphere-in-Outside-1.given.1 ∙ answer_here j)
 
 pub answer_of_spec : {M : Type 1} → statement M
 answer_of_spec =

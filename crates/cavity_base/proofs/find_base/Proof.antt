@@ -12,62 +12,62 @@ use Rattle.cavity.specs.Inner.Growth.{Scanned}
 use Rattle.mesh.proofs.Reading.{has_corners, solid, cells_few}
 use Rattle.cavity.proofs.Visiting.{scan_start, scan_past, scanned_same, scan_ends}
 
-abbrev invariant-loop : tie.invariant-loop
+abbrev invariant-loop : tie.invariant-loop-c
 invariant-loop points corners neighbours answers node codes state₀ list₀ n g₀ c₀ state list g c = (c ≤ n) × Scanned (answers_of node.handed answers) (tables points corners neighbours) node.position n c state list g
 
-abbrev decreases-loop : tie.decreases-loop
+abbrev decreases-loop : tie.decreases-loop-c
 decreases-loop points corners neighbours answers node codes state₀ list₀ n g₀ c₀ state list g c = n - c
 
-loop-holds : tie.Need-loop-init invariant-loop decreases-loop
+loop-holds : tie.Need-loop-c-init invariant-loop decreases-loop
 loop-holds c = let s = c.before.before.before.before.before.before.before in (omega arith, scan_start s.requires.0.mesh _ s.requires.0.position _ s.requires.2)
 
-abbrev start : tie.After-four-at invariant-loop decreases-loop → tie.Start invariant-loop decreases-loop
+abbrev start : tie.After-four_at invariant-loop decreases-loop → tie.Start invariant-loop decreases-loop
 start c = c.before.before.before.before.before.before.before.before.before.before
 
-four-at-requires : tie.Need-four-at-requires invariant-loop decreases-loop
+four-at-requires : tie.Need-four_at-requires invariant-loop decreases-loop
 four-at-requires c κs = let s = c.before.before.before.before.before.before.before.before.before in has_corners s.requires.0.mesh _ (omega arith)
 
-may-hold-requires : tie.Need-may-hold-requires invariant-loop decreases-loop
-may-hold-requires c κs = let p = (start c).requires in codes_there _ _ _ _ (solid p.0.mesh) _ (omega arith) c.four-at.ensures (start c).args.codes.now (ap length p.1 ∙ side_codes_length _ _ _)
+may-hold-requires : tie.Need-may_hold-requires invariant-loop decreases-loop
+may-hold-requires c κs = let p = (start c).requires in codes_there _ _ _ _ (solid p.0.mesh) _ (omega arith) c.four_at.ensures (start c).args.codes.now (ap length p.1 ∙ side_codes_length _ _ _)
 
-try-base-requires : tie.Need-try-base-requires invariant-loop decreases-loop
+try-base-requires : tie.Need-try_base-g-requires invariant-loop decreases-loop
 try-base-requires c κs =
     let f = c.before.before.before.before in
     let p = (start f).requires in
     let S = solid p.0.mesh in
-    let first = may_hold_first _ _ _ _ S _ (omega arith) f.four-at.ensures _ (sym c.before.before.before.may-hold.ensures ∙ c.before.before.if1.true) in
-    (p.0, cell_at _ _ _ _ S _ (omega arith) f.four-at.ensures _ _ first, f.before.before.loop.invariant.1)
+    let first = may_hold_first _ _ _ _ S _ (omega arith) f.four_at.ensures _ (sym c.may_hold.ensures ∙ c.if-may_hold.true) in
+    (p.0, cell_at _ _ _ _ S _ (omega arith) f.four_at.ensures _ _ first, f.loop-c.invariant.1)
 
-add-c : tie.Need-overflow-add-c invariant-loop decreases-loop
-add-c c = omega (arith, cells_few (start c.before.before).pre.0.mesh)
+add-c : tie.Need-overflow_add-c invariant-loop decreases-loop
+add-c c = omega (arith, cells_few (start c.before.before).requires.0.mesh)
 
-loop-less : tie.Need-loop-smaller invariant-loop decreases-loop
+loop-less : tie.Need-loop-c-smaller invariant-loop decreases-loop
 loop-less c = omega arith
 
 -- an entry that cannot hold the node is passed over
-loop-again : tie.Need-loop-preserved invariant-loop decreases-loop
+loop-again : tie.Need-loop-c-preserved invariant-loop decreases-loop
 loop-again c =
     let f = c.before.before in
     let p = (start f).requires in
-    let l = f.before.before.loop in (
+    let l = f.loop-c in (
       omega arith,
       ⊎_elim
           (λ w. scanned_same w.8 w.9 w.10 w.3.ensures)
           (λ w. scanned_same w.1 w.2 w.3 (scan_past p.0.mesh _ p.0.position l.invariant.1
-          (may_not_hold _ _ _ _ (solid p.0.mesh) _ (omega arith) f.four-at.ensures _ _ p.1 _ (sym c.before.may-hold.ensures ∙ w.0.left))))
-          c.if1.branch,
+          (may_not_hold _ _ _ _ (solid p.0.mesh) _ (omega arith) f.four_at.ensures _ _ p.1 _ (sym c.may_hold.ensures ∙ w.0.left))))
+          c.if-may_hold.branch,
     )
 
-same_length : tie.Need-same-length invariant-loop decreases-loop
-same_length c = c.before.loop.invariant.1.growing.list.states ∙ sym c.before.before.before.before.before.before.before.before.before.requires.2.states
+same_length : tie.Need-shape_of-state invariant-loop decreases-loop
+same_length c = c.loop-c.invariant.1.growing.list.states ∙ sym c.requires.2.states
 
-same-length-2 : tie.Need-same-length-2 invariant-loop decreases-loop
-same-length-2 c = c.before.loop.invariant.1.growing.list.entries ∙ sym c.before.before.before.before.before.before.before.before.before.requires.2.entries
+same-length-2 : tie.Need-shape_of-list invariant-loop decreases-loop
+same-length-2 c = c.loop-c.invariant.1.growing.list.entries ∙ sym c.requires.2.entries
 
 returns : tie.Need-returns invariant-loop decreases-loop
 returns c =
-    let l = c.before.loop in
-    let e : l.c ≡ c.before.before.before.before.before.before.before.before.before.args.node.used = omega arith in
+    let l = c.loop-c in
+    let e : l.c ≡ c.args.node.used = omega arith in
     scan_ends e l.invariant.1
 
 pub find_base_spec : {M : Type 1} → statement M

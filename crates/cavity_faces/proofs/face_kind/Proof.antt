@@ -17,29 +17,29 @@ use Rattle.cavity_faces.proofs.face_kind.Tie as tie
 above : (c : tie.Start) {b : Bool} → lt_z (pos 0) (back w64 c.args.v) ≡ b → lt_z (pos 0) c.args.v ≡ b
 above c e = ap (lt_z (pos 0)) (sym (to_z-of_z c.ranges.v)) ∙ e
 
-wall-kind-requires : tie.Need-wall-kind-requires
+wall-kind-requires : tie.Need-wall_kind-requires
 wall-kind-requires c κs = search rules
 
-returns : tie.Need-returns
+returns : tie.Need-returns-then-u-eq65535
 unfolding face_kind
 returns c =
-    rw (eq-eqb _ none c.before.if1.true)
-    (c.wall_kind_lem.ensures ∙ ap wall_kind (to_z-of_z c.before.before.before.ranges.v))
+    rw (eq-eqb _ none c.if-u-eq65535.true)
+    (c.wall_kind.ensures ∙ ap wall_kind (to_z-of_z c.ranges.v))
 
-shared-slice-read-if2 : tie.Need-shared-slice-read-if2
-shared-slice-read-if2 c = c.before.before.before.requires c.before.if1.false
+shared-slice-read-if2 : tie.Need-bounds-state-u
+shared-slice-read-if2 c = c.requires c.if-u-eq65535.false
 
-returns-2 : tie.Need-returns-2
+returns-2 : tie.Need-returns-then-state-u-ne0
 unfolding face_kind
-returns-2 c = rw (ne_eqb _ none c.before.before.if1.false, state_in c.if2.true)
+returns-2 c = rw (ne_eqb _ none c.if-u-eq65535.false, state_in c.if-state-u-ne0.true)
 
-returns-3 : tie.Need-returns-3
+returns-3 : tie.Need-returns-then-v-gt0
 unfolding face_kind
-returns-3 c = rw (ne_eqb _ none c.before.before.before.if1.false, state_out c.before.if2.false, above c.before.before.before.before.before c.if3.true)
+returns-3 c = rw (ne_eqb _ none c.if-u-eq65535.false, state_out c.if-state-u-ne0.false, above c.before.before.before.before.before c.if-v-gt0.true)
 
-returns-4 : tie.Need-returns-4
+returns-4 : tie.Need-returns
 unfolding face_kind
-returns-4 c = rw (ne_eqb _ none c.before.before.before.if1.false, state_out c.before.if2.false, above c.before.before.before.before.before c.if3.false)
+returns-4 c = rw (ne_eqb _ none c.if-u-eq65535.false, state_out c.if-state-u-ne0.false, above c.before.before.before.before.before c.if-v-gt0.false)
 
 pub face_kind_spec : {M : Type 1} → statement M
 face_kind_spec = tie.close (tie.spec wall-kind-requires returns shared-slice-read-if2 returns-2 returns-3 returns-4)

@@ -13,56 +13,56 @@ use borrow.Author.Rules.{rules}
 use Rattle.cavity_faces.proofs.face_kinds.Statement.{statement}
 use Rattle.cavity_faces.proofs.face_kinds.Tie as tie
 
-abbrev start : tie.After-load → tie.Start
+abbrev start : tie.After-load-cell → tie.Start
 start c = c.before.before.before.before.before.before
 
-corners_are : (c : tie.After-load) → Cornered (start c).args.points.now c.load.result.corners
-corners_are c = loaded_cornered (start c).requires.0 (start c).requires.3 c.load.ensures
+corners_are : (c : tie.After-load-cell) → Cornered (start c).args.points.now c.load-cell.result.corners
+corners_are c = loaded_cornered (start c).requires.0 (start c).requires.3 c.load-cell.ensures
 
 -- what lies across a face is none or a cell with a state
-link : (c : tie.After-load) (i : ℕ) → i < 4 → get_or c.load.result.neighbours i 0 ≢ none → get_or c.load.result.neighbours i 0 < length (start c).args.state.now
-link c i l real = subst (λ m. get_or c.load.result.neighbours i 0 < m) (sym (start c).requires.2) (loaded_link (start c).requires.0 (start c).requires.3 c.load.ensures i l real)
+link : (c : tie.After-load-cell) (i : ℕ) → i < 4 → get_or c.load-cell.result.neighbours i 0 ≢ none → get_or c.load-cell.result.neighbours i 0 < length (start c).args.state.now
+link c i l real = subst (λ m. get_or c.load-cell.result.neighbours i 0 < m) (sym (start c).requires.2) (loaded_link (start c).requires.0 (start c).requires.3 c.load-cell.ensures i l real)
 
-load-requires : tie.Need-load-requires
+load-requires : tie.Need-load-cell-requires
 load-requires c κs = let s = c.before.before.before.before.before in (has_corners s.requires.0 _ s.requires.3.below, has_neighbours s.requires.0 _ s.requires.3.below)
 
 positions-requires : tie.Need-positions-requires
 positions-requires c κs = (corners_are c.before.before).has
 
-volumes-at-requires : tie.Need-volumes-at-requires
+volumes-at-requires : tie.Need-volumes_at-v-requires
 volumes-at-requires c κs = (read_in_range c.positions.ensures (corners_are c.before.before.before), (start c.before.before.before).requires.1)
 
-array-read-face-kind : tie.Need-array-read-face-kind
+array-read-face-kind : tie.Need-bounds-u-0
 array-read-face-kind c = search rules
 
-face-kind-requires : tie.Need-face-kind-requires
+face-kind-requires : tie.Need-face_kind-requires
 face-kind-requires c κs = link c.before.before.before.before.before 0 (omega arith)
 
-array-read-face-kind-2 : tie.Need-array-read-face-kind-2
+array-read-face-kind-2 : tie.Need-bounds-u-1
 array-read-face-kind-2 c = search rules
 
-face-kind-requires-2 : tie.Need-face-kind-requires-2
+face-kind-requires-2 : tie.Need-face_kind-requires-2
 face-kind-requires-2 c κs = link c.before.before.before.before.before.before.before 1 (omega arith)
 
-array-read-face-kind-3 : tie.Need-array-read-face-kind-3
+array-read-face-kind-3 : tie.Need-bounds-u-2
 array-read-face-kind-3 c = search rules
 
-face-kind-requires-3 : tie.Need-face-kind-requires-3
+face-kind-requires-3 : tie.Need-face_kind-requires-3
 face-kind-requires-3 c κs = link c.before.before.before.before.before.before.before.before.before 2 (omega arith)
 
-array-read-face-kind-4 : tie.Need-array-read-face-kind-4
+array-read-face-kind-4 : tie.Need-bounds-u-3
 array-read-face-kind-4 c = search rules
 
-face-kind-requires-4 : tie.Need-face-kind-requires-4
+face-kind-requires-4 : tie.Need-face_kind-requires-4
 face-kind-requires-4 c κs = link c.before.before.before.before.before.before.before.before.before.before.before 3 (omega arith)
 
 returns : tie.Need-returns
 returns c =
     let l = c.before.before.before.before.before.before.before.before.before.before.before.before in
     let s = start l in
-    kinds_are s.pre.0 s.pre.1 s.pre.3 l.load.ensures s.args.state.now
-    (c.before.before.before.before.before.before.before.before.volumes-at.ensures ∙ ap (λ t. volumes_at t s.args.node.position) c.before.before.before.before.before.before.before.before.before.positions.ensures)
-    c.before.before.before.before.before.before.face-kind.ensures c.before.before.before.before.face-kind2.ensures c.before.before.face-kind3.ensures c.face-kind4.ensures
+    kinds_are s.requires.0 s.requires.1 s.requires.3 l.load-cell.ensures s.args.state.now
+    (c.volumes_at-v.ensures ∙ ap (λ t. volumes_at t s.args.node.position) c.positions.ensures)
+    c.face_kind.ensures c.face_kind-2.ensures c.face_kind-3.ensures c.face_kind-4.ensures
 
 pub face_kinds_spec : {M : Type 1} → statement M
 face_kinds_spec =

@@ -8,35 +8,35 @@ use Rattle.cavity.specs.Inner.Correction.{kinds_code, with_faces}
 use Rattle.mesh.proofs.Reading.{cells_few, has_corners, corner_mark}
 use Rattle.cavity.proofs.Marking.{kinds≤}
 
-face-kinds-requires : tie.Need-face-kinds-requires
+face-kinds-requires : tie.Need-face_kinds-k-requires
 face-kinds-requires c κs = search rules
 
-code-of-requires : tie.Need-code-of-requires
-code-of-requires c κs = kinds≤ _ _ _ _ c.face-kinds.ensures
+code-of-requires : tie.Need-code_of-requires
+code-of-requires c κs = kinds≤ _ _ _ _ c.face_kinds-k.ensures
 
-slice-write-faces : tie.Need-slice-write-faces
+slice-write-faces : tie.Need-bounds-faces-c
 slice-write-faces c = let s = c.before.before.before.before.before.before.before.before in omega (arith, s.requires.3.below, s.requires.4, cells_few s.requires.0)
 
-four-at-requires : tie.Need-four-at-requires
+four-at-requires : tie.Need-four_at-requires
 four-at-requires c κs = let s = c.before.before.before.before.before.before.before.before.before in has_corners s.requires.0 _ s.requires.3.below
 
-mark-faces-requires : tie.Need-mark-faces-requires
+mark-faces-requires : tie.Need-mark_faces-requires
 mark-faces-requires c κs j l =
     let s = c.before.before.before.before.before.before.before.before.before.before in
-    let e = ap (λ k. get_or k j 0) c.four-at.ensures in
+    let e = ap (λ k. get_or k j 0) c.four_at.ensures in
     omega (arith, e, corner_mark s.requires.0 s.args.c j s.requires.3 l, s.requires.5)
 
-same_length : tie.Need-same-length
+same_length : tie.Need-shape_of-faces
 same_length c = search rules
 
-same-length-2 : tie.Need-same-length-2
+same-length-2 : tie.Need-shape_of-exposed
 same-length-2 c = search rules
 
 returns : tie.Need-returns
 returns c =
     let s = c.before.before.before.before.before.before.before.before.before.before.before.before.before in (
-      ap (set s.args.faces.now s.args.c) (c.before.before.before.before.before.code_of_lem.ensures ∙ ap kinds_code c.before.before.before.before.before.before.face-kinds.ensures),
-      c.before.before.mark-faces.ensures ∙ ap₂ (with_faces 4 s.args.exposed.now) c.before.before.before.before.before.before.face-kinds.ensures c.before.before.before.four-at.ensures,
+      ap (set s.args.faces.now s.args.c) (c.code_of.ensures ∙ ap kinds_code c.face_kinds-k.ensures),
+      c.mark_faces.ensures ∙ ap₂ (with_faces 4 s.args.exposed.now) c.face_kinds-k.ensures c.four_at.ensures,
     )
 
 pub inspect_spec : {M : Type 1} → statement M

@@ -9,52 +9,52 @@ use Rattle.mesh.proofs.Reading.{cells_few}
 use Rattle.cavity.proofs.Gathering.{size≤, listed_cell}
 use Rattle.cavity.proofs.Rounds.{inspected_more, inspected_ends}
 
-abbrev invariant-loop : tie.invariant-loop
+abbrev invariant-loop : tie.invariant-loop-h
 invariant-loop points corners neighbours node state list size faces₀ exposed₀ h₀ faces exposed h = (h ≤ size) × InspectedTo (tables points corners neighbours) node.used node.position state list size h faces exposed
 
-abbrev decreases-loop : tie.decreases-loop
+abbrev decreases-loop : tie.decreases-loop-h
 decreases-loop points corners neighbours node state list size faces₀ exposed₀ h₀ faces exposed h = size - h
 
-loop-holds : tie.Need-loop-init invariant-loop decreases-loop
-loop-holds c = (omega arith, c.before.before.before.before.before.before.before.requires.3)
+loop-holds : tie.Need-loop-h-init invariant-loop decreases-loop
+loop-holds c = (omega arith, c.requires.3)
 
-mul-c : tie.Need-overflow-mul-c invariant-loop decreases-loop
+mul-c : tie.Need-offset_bounds-list-h invariant-loop decreases-loop
 mul-c c = let s = c.before.before.before.before.before.before.before.before.before in omega (arith, size≤ s.requires.2, cells_few s.requires.0)
 
-shared-slice-read-c : tie.Need-shared-slice-read-c invariant-loop decreases-loop
+shared-slice-read-c : tie.Need-bounds-list-h invariant-loop decreases-loop
 shared-slice-read-c c = let s = c.before.before.before.before.before.before.before.before.before.before in omega (arith, size≤ s.requires.2, cells_few s.requires.0, s.requires.2.entries)
 
-cast-c : tie.Need-overflow-cast-c invariant-loop decreases-loop
-cast-c c = let s = c.before.before.before.before.before.before.before.before.before.before in omega (arith, s.requires.2.below c.before.before.loop.h (omega arith), cells_few s.requires.0)
+cast-c : tie.Need-overflow_cast-c invariant-loop decreases-loop
+cast-c c = let s = c.before.before.before.before.before.before.before.before.before.before in omega (arith, s.requires.2.below c.loop-h.h (omega arith), cells_few s.requires.0)
 
 inspect-requires : tie.Need-inspect-requires invariant-loop decreases-loop
 inspect-requires c κs =
     let s = c.before.before.before.before.before.before.before.before.before.before.before.before in
-    let l = c.before.before.before.before.loop in
+    let l = c.loop-h in
     (s.requires.0, s.requires.1, s.requires.2.states, listed_cell s.requires.2 l.h (omega arith), l.invariant.1.codes, l.invariant.1.marks)
 
-add-h : tie.Need-overflow-add-h invariant-loop decreases-loop
+add-h : tie.Need-overflow_add-h invariant-loop decreases-loop
 add-h c = let s = c.before.before.before.before.before.before.before.before.before.before.before.before.before.before.before.before.before in omega (arith, size≤ s.requires.2, cells_few s.requires.0)
 
-loop-less : tie.Need-loop-smaller invariant-loop decreases-loop
+loop-less : tie.Need-loop-h-smaller invariant-loop decreases-loop
 loop-less c = omega arith
 
-loop-again : tie.Need-loop-preserved invariant-loop decreases-loop
+loop-again : tie.Need-loop-h-preserved invariant-loop decreases-loop
 loop-again c =
     let s = c.before.before.before.before.before.before.before.before.before.before.before.before.before.before.before.before.before in
-    let l = c.before.before.before.before.before.before.before.before.before.loop in
-    (omega arith, inspected_more s.requires.0 _ s.requires.2 l.h (omega arith) l.invariant.1 c.before.before.before.before.inspect.ensures.0 c.before.before.before.before.inspect.ensures.1)
+    let l = c.loop-h in
+    (omega arith, inspected_more s.requires.0 _ s.requires.2 l.h (omega arith) l.invariant.1 c.inspect.ensures.0 c.inspect.ensures.1)
 
-same_length : tie.Need-same-length invariant-loop decreases-loop
-same_length c = c.before.loop.invariant.1.codes ∙ sym c.before.before.before.before.before.before.before.before.before.requires.3.codes
+same_length : tie.Need-shape_of-faces invariant-loop decreases-loop
+same_length c = c.loop-h.invariant.1.codes ∙ sym c.requires.3.codes
 
-same-length-2 : tie.Need-same-length-2 invariant-loop decreases-loop
-same-length-2 c = c.before.loop.invariant.1.marks ∙ sym c.before.before.before.before.before.before.before.before.before.requires.3.marks
+same-length-2 : tie.Need-shape_of-exposed invariant-loop decreases-loop
+same-length-2 c = c.loop-h.invariant.1.marks ∙ sym c.requires.3.marks
 
 returns : tie.Need-returns invariant-loop decreases-loop
 returns c =
-    let l = c.before.loop in
-    let e : l.h ≡ c.before.before.before.before.before.before.before.before.before.args.size = omega arith in
+    let l = c.loop-h in
+    let e : l.h ≡ c.args.size = omega arith in
     inspected_ends e l.invariant.1
 
 pub inspect_all_spec : {M : Type 1} → statement M

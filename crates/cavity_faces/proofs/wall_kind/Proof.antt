@@ -16,17 +16,17 @@ above c e = ap (lt_z (pos 0)) (sym (to_z-of_z c.ranges.side)) ∙ e
 below : (c : tie.Start) {b : Bool} → lt_z (back w64 c.args.side) (pos 0) ≡ b → lt_z c.args.side (pos 0) ≡ b
 below c e = ap (λ z. lt_z z (pos 0)) (sym (to_z-of_z c.ranges.side)) ∙ e
 
-returns : tie.Need-returns
+returns : tie.Need-returns-then-side-gt0
 unfolding wall_kind
-returns c = rw (above c.before c.if1.true)
+returns c = rw (above c.before c.if-side-gt0.true)
 
-returns-2 : tie.Need-returns-2
+returns-2 : tie.Need-returns-then-side-lt0
 unfolding wall_kind
-returns-2 c = rw (above c.before.before c.before.if1.false, below c.before.before c.if2.true)
+returns-2 c = rw (above c.before.before c.if-side-gt0.false, below c.before.before c.if-side-lt0.true)
 
-returns-3 : tie.Need-returns-3
+returns-3 : tie.Need-returns
 unfolding wall_kind
-returns-3 c = rw (above c.before.before c.before.if1.false, below c.before.before c.if2.false)
+returns-3 c = rw (above c.before.before c.if-side-gt0.false, below c.before.before c.if-side-lt0.false)
 
 pub wall_kind_spec : {M : Type 1} → statement M
 wall_kind_spec = tie.close (tie.spec returns returns-2 returns-3)

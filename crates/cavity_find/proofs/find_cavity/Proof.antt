@@ -7,57 +7,57 @@ use Rattle.cavity.proofs.Gathering.{none_denied, denied_unstamped, unstamped_lat
 use Rattle.cavity.proofs.Visiting.{scanned_reached}
 use Rattle.cavity.proofs.Removal.{found_none, grown_correctable, found_cavity}
 
-find-base-requires : tie.Need-find-base-requires
+find-base-requires : tie.Need-find_base-base-requires
 find-base-requires c κs = search rules
 
-same_length : tie.Need-same-length
+same_length : tie.Need-shape_of-state-then-base-eq0
 same_length c = search rules
 
-same-length-2 : tie.Need-same-length-2
+same-length-2 : tie.Need-shape_of-list-then-base-eq0
 same-length-2 c = search rules
 
-returns : tie.Need-returns
+returns : tie.Need-returns-then-base-eq0
 returns c =
-    let p = c.before.before.before.before.before.before.before.before.before.before.before.before.before.before.before.before.before.before.before.requires in (
-      found_none p.0.mesh _ p.0.position c.before.before.before.before.before.before.find-base.ensures _ _ p.4 c.if1.true,
+    let p = c.requires in (
+      found_none p.0.mesh _ p.0.position c.find_base-base.ensures _ _ p.4 c.if-base-eq0.true,
       unstamped_later p.3 (omega arith),
       p.5,
     )
 
-grow-requires : tie.Need-grow-requires
+grow-requires : tie.Need-grow-all-requires
 grow-requires c κs =
-    let p = c.before.before.before.before.before.before.before.before.before.before.before.before.before.before.before.before.before.before.before.before.before.before.requires in
-    (p.0, scanned_reached p.0.mesh _ p.0.position c.before.before.before.before.before.before.before.before.before.find-base.ensures, none_denied _ _ _ p.3)
+    let p = c.requires in
+    (p.0, scanned_reached p.0.mesh _ p.0.position c.find_base-base.ensures, none_denied _ _ _ p.3)
 
-correct-requires : tie.Need-correct-requires
+correct-requires : tie.Need-correct-after-requires
 correct-requires c κs =
-    let p = c.before.before.before.before.before.before.before.before.before.before.before.before.before.before.before.before.before.before.before.before.before.before.before.before.before.before.before.before.before.before.before.before.before.requires in
-    let g = c.before.before.before.before.before.before.before.before.before.before.grow.ensures in
-    let b = c.before.before.before.before.before.before.before.before.before.before.before.before.before.before.before.before.before.before.before.before.find-base.ensures in
-    (p.0.mesh, p.0.position, grown_correctable p.0.mesh _ p.0.position b c.before.before.before.before.before.before.before.before.before.before.before.before.before.before.if1.false g.0 g.1, p.4, p.5)
+    let p = c.requires in
+    let g = c.grow-all.ensures in
+    let b = c.find_base-base.ensures in
+    (p.0.mesh, p.0.position, grown_correctable p.0.mesh _ p.0.position b c.if-base-eq0.false g.0 g.1, p.4, p.5)
 
-same-length-3 : tie.Need-same-length-3
-same-length-3 c = c.before.before.before.before.before.before.before.before.correct.ensures.0.states ∙ sym c.before.before.before.before.before.before.before.before.before.before.before.before.before.before.before.before.before.before.before.before.before.before.before.before.before.before.before.before.before.before.before.before.before.before.before.before.before.before.before.before.before.before.requires.2.states
+same-length-3 : tie.Need-shape_of-state
+same-length-3 c = c.correct-after.ensures.0.states ∙ sym c.requires.2.states
 
-same-length-4 : tie.Need-same-length-4
+same-length-4 : tie.Need-shape_of-list
 same-length-4 c = search rules
 
-same-length-5 : tie.Need-same-length-5
+same-length-5 : tie.Need-shape_of-faces
 same-length-5 c = search rules
 
-same-length-6 : tie.Need-same-length-6
+same-length-6 : tie.Need-shape_of-denied
 same-length-6 c = search rules
 
-same-length-7 : tie.Need-same-length-7
+same-length-7 : tie.Need-shape_of-exposed
 same-length-7 c = search rules
 
-returns-2 : tie.Need-returns-2
+returns-2 : tie.Need-returns
 returns-2 c =
-    let p = c.before.before.before.before.before.before.before.before.before.before.before.before.before.before.before.before.before.before.before.before.before.before.before.before.before.before.before.before.before.before.before.before.before.before.before.before.before.before.before.before.before.before.requires in
-    let b = c.before.before.before.before.before.before.before.before.before.before.before.before.before.before.before.before.before.before.before.before.before.before.before.before.before.before.before.before.before.find-base.ensures in
-    let g = c.before.before.before.before.before.before.before.before.before.before.before.before.before.before.before.before.before.before.before.grow.ensures in
-    let r = c.before.before.before.before.before.before.before.before.correct.ensures in (
-      found_cavity p.0.mesh _ p.0.position b c.before.before.before.before.before.before.before.before.before.before.before.before.before.before.before.before.before.before.before.before.before.before.before.if1.false g.0 g.1 r.0 r.1 r.3 r.4,
+    let p = c.requires in
+    let b = c.find_base-base.ensures in
+    let g = c.grow-all.ensures in
+    let r = c.correct-after.ensures in (
+      found_cavity p.0.mesh _ p.0.position b c.if-base-eq0.false g.0 g.1 r.0 r.1 r.3 r.4,
       denied_unstamped g.2 (omega arith),
       r.2,
     )

@@ -7,29 +7,29 @@ use lib.ListN.{length, get_or}
 use Rattle.cavity.specs.Inner.Correction.{all_exposed}
 use Rattle.cavity.proofs.Rounds.{stays_base, leaves_face, stays_exposed}
 
-shared-slice-read-if1 : tie.Need-shared-slice-read-if1
+shared-slice-read-if1 : tie.Need-bounds-state-c
 shared-slice-read-if1 c = search rules
 
-returns : tie.Need-returns
-returns c = stays_base _ _ _ _ _ c.if1.true
+returns : tie.Need-returns-then-state-c-eq2
+returns c = stays_base _ _ _ _ _ c.if-state-c-eq2.true
 
-shared-slice-read-if2 : tie.Need-shared-slice-read-if2
+shared-slice-read-if2 : tie.Need-bounds-faces-c
 shared-slice-read-if2 c = search rules
 
-returns-2 : tie.Need-returns-2
-returns-2 c = leaves_face _ _ _ _ _ c.before.before.if1.false c.if2.true
+returns-2 : tie.Need-returns-then-faces-c-ge16
+returns-2 c = leaves_face _ _ _ _ _ c.if-state-c-eq2.false c.if-faces-c-ge16.true
 
-four-at-requires : tie.Need-four-at-requires
+four-at-requires : tie.Need-four_at-requires
 four-at-requires c κs = search rules
 
-all-exposed-requires : tie.Need-all-exposed-requires
+all-exposed-requires : tie.Need-all_exposed-requires
 all-exposed-requires c κs j l =
-    subst (λ k. get_or k j 0 < length c.before.before.before.before.before.before.before.before.before.args.exposed.now) (sym c.four-at.ensures) (c.before.before.before.before.before.before.before.before.before.requires.3 j l)
+    subst (λ k. get_or k j 0 < length c.args.exposed.now) (sym c.four_at.ensures) (c.requires.3 j l)
 
-returns-3 : tie.Need-returns-3
+returns-3 : tie.Need-returns
 returns-3 c =
     let s = c.before.before.before.before.before.before.before.before.before.before in
-    stays_exposed _ _ _ _ _ c.before.before.before.before.if1.false c.before.before.if2.false (c.all-exposed.ensures ∙ ap (all_exposed s.args.exposed.now) c.before.four-at.ensures)
+    stays_exposed _ _ _ _ _ c.if-state-c-eq2.false c.if-faces-c-ge16.false (c.all_exposed.ensures ∙ ap (all_exposed s.args.exposed.now) c.four_at.ensures)
 
 pub stays_spec : {M : Type 1} → statement M
 stays_spec =

@@ -1,3 +1,4 @@
+use Rattle.std.proofs.lemmas.Bool.{not_from_false, not_from_true}
 use Prim.Native.Nat.{◌<◌}
 use mathlib.Core.Bool.{false}
 use mathlib.Core.Path.{sym, ◌∙◌}
@@ -13,84 +14,84 @@ use Rattle.corrections_call.proofs.set_correction.Tie as tie
 clear-requires : tie.Need-clear-requires
 clear-requires c κs = search rules
 
-table-refusal-requires : tie.Need-table-refusal-requires
+table-refusal-requires : tie.Need-table_refusal-refusal-requires
 table-refusal-requires c κs = search rules
 
-same_length : tie.Need-same-length
+same_length : tie.Need-shape_of-work-then-refusal-ne0
 same_length c = search rules
 
-same-length-2 : tie.Need-same-length-2
+same-length-2 : tie.Need-shape_of-corrections-then-refusal-ne0
 same-length-2 c = search rules
 
-returns : tie.Need-returns
+returns : tie.Need-returns-then-refusal-ne0
 returns c =
-    let s = set_refused _ _ _ c.before.before.before.before.before.before.before.before.before.before.before.args.work.now c.before.before.before.before.before.clear.ensures c.before.before.before.before.before.before.before.before.before.before.before.args.point c.before.before.before.before.before.before.before.before.before.before.before.args.d c.before.table-refusal.ensures c.if1.true in
-    (s.answer, s.table, c.before.before.before.before.before.clear.ensures)
+    let s = set_refused _ _ _ c.args.work.now c.clear.ensures c.args.point c.args.d c.table_refusal-refusal.ensures c.if-refusal-ne0.true in
+    (s.answer, s.table, c.clear.ensures)
 
-same-length-3 : tie.Need-same-length-3
+same-length-3 : tie.Need-shape_of-work-then-mesh-point
 same-length-3 c = search rules
 
-same-length-4 : tie.Need-same-length-4
+same-length-4 : tie.Need-shape_of-corrections-then-mesh-point
 same-length-4 c = search rules
 
-returns-2 : tie.Need-returns-2
+returns-2 : tie.Need-returns-then-mesh-point
 returns-2 c =
-    let s = set_no_point _ _ _ c.before.before.before.before.before.before.before.before.before.before.before.before.before.args.work.now c.before.before.before.before.before.before.before.clear.ensures c.before.before.before.before.before.before.before.before.before.before.before.before.before.args.point c.before.before.before.before.before.before.before.before.before.before.before.before.before.args.d c.before.before.before.table-refusal.ensures c.before.before.if1.false (omega (arith, c.if2.true)) in
-    (s.answer, s.table, c.before.before.before.before.before.before.before.clear.ensures)
+    let s = set_no_point _ _ _ c.args.work.now c.clear.ensures c.args.point c.args.d c.table_refusal-refusal.ensures c.if-refusal-ne0.false (omega (arith, c.if-mesh-point.true)) in
+    (s.answer, s.table, c.clear.ensures)
 
-is-correction-requires : tie.Need-is-correction-requires
+is-correction-requires : tie.Need-is_correction-requires
 is-correction-requires c κs = search rules
 
-same-length-5 : tie.Need-same-length-5
+same-length-5 : tie.Need-shape_of-work-then-not-is_correction
 same-length-5 c = search rules
 
-same-length-6 : tie.Need-same-length-6
+same-length-6 : tie.Need-shape_of-corrections-then-not-is_correction
 same-length-6 c = search rules
 
-returns-3 : tie.Need-returns-3
+returns-3 : tie.Need-returns-then-not-is_correction
 returns-3 c =
-    let s = set_handed _ _ _ c.before.before.before.before.before.before.before.before.before.before.before.before.before.before.before.args.work.now c.before.before.before.before.before.before.before.before.before.clear.ensures c.before.before.before.before.before.before.before.before.before.before.before.before.before.before.before.args.point c.before.before.before.before.before.before.before.before.before.before.before.before.before.before.before.args.d c.before.before.before.before.before.table-refusal.ensures c.before.before.before.before.if1.false (omega (arith, c.before.before.if2.false)) (test_failed c.before.is-correction.ensures c.if3.true) in
-    (s.answer, s.table, c.before.before.before.before.before.before.before.before.before.clear.ensures)
+    let s = set_handed _ _ _ c.args.work.now c.clear.ensures c.args.point c.args.d c.table_refusal-refusal.ensures c.if-refusal-ne0.false (omega (arith, c.if-mesh-point.false)) (test_failed c.is_correction.ensures (not_from_false _ c.if-not-is_correction.true)) in
+    (s.answer, s.table, c.clear.ensures)
 
-cast-out-of-range : tie.Need-overflow-cast-out-of-range
+cast-out-of-range : tie.Need-overflow_cast-mesh
 cast-out-of-range c = search rules
 
-out-of-range-requires : tie.Need-out-of-range-requires
+out-of-range-requires : tie.Need-out_of_range-requires
 out-of-range-requires c κs =
-    let e = c.before.before.before.before.before.before.before.table-refusal.ensures in
-    let z = c.before.before.before.before.before.before.if1.false in
+    let e = c.table_refusal-refusal.ensures in
+    let z = c.if-refusal-ne0.false in
     numbers_lent _ _ _ (mesh_at _ _ _ _ false e z) (long_at _ _ _ _ false e z)
 
-same-length-7 : tie.Need-same-length-7
+same-length-7 : tie.Need-shape_of-work-then-out_of_range
 same-length-7 c = search rules
 
-same-length-8 : tie.Need-same-length-8
+same-length-8 : tie.Need-shape_of-corrections-then-out_of_range
 same-length-8 c = search rules
 
-returns-4 : tie.Need-returns-4
+returns-4 : tie.Need-returns-then-out_of_range
 returns-4 c =
-    let s = set_wrong _ _ _ c.before.before.before.before.before.before.before.before.before.before.before.before.before.before.before.before.before.before.before.args.work.now c.before.before.before.before.before.before.before.before.before.before.before.before.before.clear.ensures c.before.before.before.before.before.before.before.before.before.before.before.before.before.before.before.before.before.before.before.args.point c.before.before.before.before.before.before.before.before.before.before.before.before.before.before.before.before.before.before.before.args.d c.before.before.before.before.before.before.before.before.before.table-refusal.ensures c.before.before.before.before.before.before.before.before.if1.false (omega (arith, c.before.before.before.before.before.before.if2.false)) (test_passed c.before.before.before.before.before.is-correction.ensures c.before.before.before.before.if3.false) (sym c.before.out_of_range.ensures ∙ c.if4.true) in
-    (s.answer, s.table, c.before.before.before.before.before.before.before.before.before.before.before.before.before.clear.ensures)
+    let s = set_wrong _ _ _ c.args.work.now c.clear.ensures c.args.point c.args.d c.table_refusal-refusal.ensures c.if-refusal-ne0.false (omega (arith, c.if-mesh-point.false)) (test_passed c.is_correction.ensures (not_from_true _ c.if-not-is_correction.false)) (sym c.out_of_range.ensures ∙ c.if-out_of_range.true) in
+    (s.answer, s.table, c.clear.ensures)
 
-put-correction-requires : tie.Need-put-correction-requires
+put-correction-requires : tie.Need-put_correction-requires
 put-correction-requires c κs =
-    let e = c.before.before.before.before.before.before.before.before.before.before.table-refusal.ensures in
-    let z = c.before.before.before.before.before.before.before.before.before.if1.false in
-    omega (arith, numbers_lent _ _ _ (mesh_at _ _ _ _ false e z) (long_at _ _ _ _ false e z), c.before.before.before.before.before.before.before.if2.false)
+    let e = c.table_refusal-refusal.ensures in
+    let z = c.if-refusal-ne0.false in
+    omega (arith, numbers_lent _ _ _ (mesh_at _ _ _ _ false e z) (long_at _ _ _ _ false e z), c.if-mesh-point.false)
 
-same-length-9 : tie.Need-same-length-9
+same-length-9 : tie.Need-shape_of-work
 same-length-9 c = search rules
 
-same-length-10 : tie.Need-same-length-10
+same-length-10 : tie.Need-shape_of-corrections
 same-length-10 c = search rules
 
-returns-5 : tie.Need-returns-5
+returns-5 : tie.Need-returns
 returns-5 c =
-    let e = c.before.before.before.before.before.before.before.before.before.before.before.before.table-refusal.ensures in
-    let h : c.before.before.before.before.before.before.before.before.before.before.before.before.before.before.before.before.before.before.before.before.before.before.args.point < c.before.before.before.before.before.before.before.before.before.before.before.before.before.before.before.before.before.before.before.before.before.before.args.mesh.points = omega (arith, c.before.before.before.before.before.before.before.before.before.if2.false) in
-    let f = test_passed c.before.before.before.before.before.before.before.before.is-correction.ensures c.before.before.before.before.before.before.before.if3.false in
-    let o = sym c.before.before.before.before.out_of_range.ensures ∙ c.before.before.before.if4.false in
-    (set_answer _ _ _ c.before.before.before.before.before.before.before.before.before.before.before.before.before.before.before.before.before.before.before.before.before.before.args.work.now c.before.before.before.before.before.before.before.before.before.before.before.before.before.before.before.before.clear.ensures c.before.before.before.before.before.before.before.before.before.before.before.before.before.before.before.before.before.before.before.before.before.before.args.point c.before.before.before.before.before.before.before.before.before.before.before.before.before.before.before.before.before.before.before.before.before.before.args.d e c.before.before.before.before.before.before.before.before.before.before.before.if1.false h f o, c.before.put-correction.ensures ∙ set_table_lem _ _ _ c.before.before.before.before.before.before.before.before.before.before.before.before.before.before.before.before.before.before.before.before.before.before.args.work.now c.before.before.before.before.before.before.before.before.before.before.before.before.before.before.before.before.clear.ensures c.before.before.before.before.before.before.before.before.before.before.before.before.before.before.before.before.before.before.before.before.before.before.args.point c.before.before.before.before.before.before.before.before.before.before.before.before.before.before.before.before.before.before.before.before.before.before.args.d e c.before.before.before.before.before.before.before.before.before.before.before.if1.false h f o, c.before.before.before.before.before.before.before.before.before.before.before.before.before.before.before.before.clear.ensures)
+    let e = c.table_refusal-refusal.ensures in
+    let h : c.args.point < c.args.mesh.points = omega (arith, c.if-mesh-point.false) in
+    let f = test_passed c.is_correction.ensures (not_from_true _ c.if-not-is_correction.false) in
+    let o = sym c.out_of_range.ensures ∙ c.if-out_of_range.false in
+    (set_answer _ _ _ c.args.work.now c.clear.ensures c.args.point c.args.d e c.if-refusal-ne0.false h f o, c.put_correction.ensures ∙ set_table_lem _ _ _ c.args.work.now c.clear.ensures c.args.point c.args.d e c.if-refusal-ne0.false h f o, c.clear.ensures)
 
 pub set_correction_spec : {M : Type 1} → statement M
 set_correction_spec =

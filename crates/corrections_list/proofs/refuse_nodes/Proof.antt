@@ -10,22 +10,22 @@ use borrow.Author.Rules.{rules}
 use Rattle.corrections_list.proofs.refuse_nodes.Statement.{statement}
 use Rattle.corrections_list.proofs.refuse_nodes.Tie as tie
 
-returns : tie.Need-returns
+returns : tie.Need-returns-then-nodes-lt3
 unfolding refused_nodes
-returns c = rw (lt-ltb (length c.before.before.before.args.nodes.now) 3 (omega (arith, c.if1.true)))
+returns c = rw (lt-ltb (length c.args.nodes.now) 3 (omega (arith, c.if-nodes-lt3.true)))
 
-point-at-requires : tie.Need-point-at-requires
+point-at-requires : tie.Need-point_at-requires
 point-at-requires c κs = search rules
 
-early-refusal-requires : tie.Need-early-refusal-requires
+early-refusal-requires : tie.Need-early_refusal-requires
 early-refusal-requires c κs = search rules
 
-returns-2 : tie.Need-returns-2
+returns-2 : tie.Need-returns
 unfolding refused_nodes
 returns-2 c =
-    let a = c.before.before.before.before.before.args in
-    rw (le-ltb (length a.nodes.now) 3 (omega (arith, c.before.before.if1.false)))
-    (ap (Stopped a.mesh 0) (c.early-refusal.ensures [] [] ∙ ap (early_refusal a.mesh (tables a.points.now [] [])) c.before.point_at.ensures))
+    let a = c.args in
+    rw (le-ltb (length a.nodes.now) 3 (omega (arith, c.if-nodes-lt3.false)))
+    (ap (Stopped a.mesh 0) (c.early_refusal.ensures [] [] ∙ ap (early_refusal a.mesh (tables a.points.now [] [])) c.point_at.ensures))
 
 pub refuse_nodes_spec : {M : Type 1} → statement M
 refuse_nodes_spec = tie.close (tie.spec returns point-at-requires early-refusal-requires returns-2)

@@ -8,72 +8,72 @@ use Rattle.corrections_look.proofs.look_node.Statement.{statement}
 use Rattle.corrections_look.proofs.look_node.Tie as tie
 
 -- where find has answered, from where its refusal was tested
-abbrev found_at : tie.Else1 → tie.After-find
+abbrev found_at : tie.Else-refusal-ne0 → tie.After-find-found
 found_at c = c.before.before.before.before.before.before.before
 
-cast-if2 : tie.Need-overflow-cast-if2
+cast-if2 : tie.Need-overflow_cast-node
 cast-if2 c = search rules
 
-cast-t20 : tie.Need-overflow-cast-t20
+cast-t20 : tie.Need-overflow_cast-node-2
 cast-t20 c = search rules
 
-cast-t21 : tie.Need-overflow-cast-t21
+cast-t21 : tie.Need-overflow_cast-node-3
 cast-t21 c = search rules
 
-slice-aggregate-find : tie.Need-slice-aggregate-find
+slice-aggregate-find : tie.Need-slice_bounds-find-end
 slice-aggregate-find c = search rules
 
-slice-aggregate-find-2 : tie.Need-slice-aggregate-find-2
+slice-aggregate-find-2 : tie.Need-slice_bounds-find-end-2
 slice-aggregate-find-2 c = search rules
 
-slice-aggregate-find-3 : tie.Need-slice-aggregate-find-3
+slice-aggregate-find-3 : tie.Need-slice_bounds-find-end-3
 slice-aggregate-find-3 c = search rules
 
-slice-aggregate-find-4 : tie.Need-slice-aggregate-find-4
+slice-aggregate-find-4 : tie.Need-slice_bounds-find-end-4
 slice-aggregate-find-4 c = search rules
 
-slice-aggregate-find-5 : tie.Need-slice-aggregate-find-5
+slice-aggregate-find-5 : tie.Need-slice_bounds-find-end-5
 slice-aggregate-find-5 c = search rules
 
-slice-aggregate-find-6 : tie.Need-slice-aggregate-find-6
+slice-aggregate-find-6 : tie.Need-slice_bounds-find-end-6
 slice-aggregate-find-6 c = search rules
 
-slice-aggregate-find-7 : tie.Need-slice-aggregate-find-7
+slice-aggregate-find-7 : tie.Need-slice_bounds-find-end-7
 slice-aggregate-find-7 c = search rules
 
-find-requires : tie.Need-find-requires
+find-requires : tie.Need-find-found-requires
 find-requires c κs =
-    let p = c.before.before.before.before.before.before.before.before.before.before.before.before.before.before.requires in
+    let p = c.requires in
     (record { mesh = p; points_are = refl; cells_are = refl; used_are = refl; answered = λ h. absurd (true≢false (sym h)) }, fresh _ _ _ p)
 
-returns : tie.Need-returns
-returns c = looked_refused c.before.before.before.before.before.before.before.find.ensures refl _ c.if1.true
+returns : tie.Need-returns-then-refusal-ne0
+returns c = looked_refused c.find-found.ensures refl _ c.if-refusal-ne0.true
 
-returns-2 : tie.Need-returns-2
-returns-2 c = let e = c.before.before in looked_short ((found_at e).find.ensures.starable e.if1.false) refl _ (omega (arith, c.if2.true))
+returns-2 : tie.Need-returns-then-marks-node
+returns-2 c = let e = c.before.before in looked_short ((found_at e).find-found.ensures.starable e.if-refusal-ne0.false) refl _ (omega (arith, c.if-marks-node.true))
 
-report-requires : tie.Need-report-requires
+report-requires : tie.Need-report-seen-requires
 report-requires c κs =
     let e = c.before.before in
-    report_asks ((found_at e).find.ensures.starable e.if1.false)
+    report_asks ((found_at e).find-found.ensures.starable e.if-refusal-ne0.false)
 
-slice-aggregate-write-marks : tie.Need-slice-aggregate-write-marks
-slice-aggregate-write-marks c = sym (found_at c.before.before.before.before).find.auto.1.1.1.1.1.1.0
+slice-aggregate-write-marks : tie.Need-slice_bounds-write_marks-end
+slice-aggregate-write-marks c = sym (found_at c.before.before.before.before).find-found.auto.1.1.1.1.1.1.0
 
-write-marks-requires : tie.Need-write-marks-requires
+write-marks-requires : tie.Need-write_marks-requires
 write-marks-requires c κs =
     let e = c.before.before.before.before.before in
-    (states_long ((found_at e).find.ensures.starable e.if1.false), omega (arith, c.before.before.before.if2.false))
+    (states_long ((found_at e).find-found.ensures.starable e.if-refusal-ne0.false), omega (arith, c.if-marks-node.false))
 
-same_length : tie.Need-same-length
+same_length : tie.Need-shape_of-marks
 same_length c = search rules
 
-returns-3 : tie.Need-returns-3
+returns-3 : tie.Need-returns
 returns-3 c =
     let written = c.before.before in
     let told = written.before.before.before in
     let e = told.before.before.before in
-    looked_reported ((found_at e).find.ensures.starable e.if1.false) refl _ (omega (arith, told.before.if2.false)) told.report.ensures written.write-marks.ensures
+    looked_reported ((found_at e).find-found.ensures.starable e.if-refusal-ne0.false) refl _ (omega (arith, told.if-marks-node.false)) told.report-seen.ensures written.write_marks.ensures
 
 pub look_node_spec : {M : Type 1} → statement M
 look_node_spec =

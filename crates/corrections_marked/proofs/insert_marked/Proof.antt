@@ -8,53 +8,53 @@ use Rattle.corrections_marked.proofs.insert_marked.Tie as tie
 clear-requires : tie.Need-clear-requires
 clear-requires c κs = search rules
 
-table-refusal-requires : tie.Need-table-refusal-requires
+table-refusal-requires : tie.Need-table_refusal-refusal-requires
 table-refusal-requires c κs = search rules
 
-same_length : tie.Need-same-length
+same_length : tie.Need-shape_of-points-then-refusal-ne0
 same_length c = search rules
 
-same-length-2 : tie.Need-same-length-2
+same-length-2 : tie.Need-shape_of-corners-then-refusal-ne0
 same-length-2 c = search rules
 
-same-length-3 : tie.Need-same-length-3
+same-length-3 : tie.Need-shape_of-neighbours-then-refusal-ne0
 same-length-3 c = search rules
 
-same-length-4 : tie.Need-same-length-4
+same-length-4 : tie.Need-shape_of-work-then-refusal-ne0
 same-length-4 c = search rules
 
-same-length-5 : tie.Need-same-length-5
+same-length-5 : tie.Need-shape_of-corrections-then-refusal-ne0
 same-length-5 c = search rules
 
-returns : tie.Need-returns
-returns c = marked_refused _ _ _ _ c.before.before.before.before.before.before.before.before.clear.ensures _ _ c.before.table-refusal.ensures c.if1.true
+returns : tie.Need-returns-then-refusal-ne0
+returns c = marked_refused _ _ _ _ c.clear.ensures _ _ c.table_refusal-refusal.ensures c.if-refusal-ne0.true
 
-slice-aggregate-insert-node : tie.Need-slice-aggregate-insert-node
+slice-aggregate-insert-node : tie.Need-slice_bounds-insert_node-end
 slice-aggregate-insert-node c = search rules
 
-insert-node-requires : tie.Need-insert-node-requires
+insert-node-requires : tie.Need-insert_node-marked-requires
 insert-node-requires c κs =
-    let e = c.before.before.before.before.before.before.table-refusal.ensures in
-    let z = c.before.before.before.before.before.if1.false in
+    let e = c.table_refusal-refusal.ensures in
+    let z = c.if-refusal-ne0.false in
     (mesh_at _ _ _ _ false e z, (λ h. absurd (true≢false (sym h))), long_at _ _ _ _ false e z)
 
-same-length-6 : tie.Need-same-length-6
+same-length-6 : tie.Need-shape_of-points
 same-length-6 c = search rules
 
-same-length-7 : tie.Need-same-length-7
+same-length-7 : tie.Need-shape_of-corners
 same-length-7 c = search rules
 
-same-length-8 : tie.Need-same-length-8
+same-length-8 : tie.Need-shape_of-neighbours
 same-length-8 c = search rules
 
-same-length-9 : tie.Need-same-length-9
+same-length-9 : tie.Need-shape_of-work
 same-length-9 c = search rules
 
-same-length-10 : tie.Need-same-length-10
+same-length-10 : tie.Need-shape_of-corrections
 same-length-10 c = search rules
 
-returns-2 : tie.Need-returns-2
-returns-2 c = marked_kept _ _ _ _ c.before.before.before.before.before.before.before.before.before.before.before.before.before.before.before.before.before.before.before.before.before.clear.ensures _ _ c.before.before.before.before.before.before.before.before.before.before.before.before.before.before.table-refusal.ensures c.before.before.before.before.before.before.before.before.before.before.before.before.before.if1.false c.before.before.before.before.before.before.before.insert-node.ensures
+returns-2 : tie.Need-returns
+returns-2 c = marked_kept _ _ _ _ c.clear.ensures _ _ c.table_refusal-refusal.ensures c.if-refusal-ne0.false c.insert_node-marked.ensures
 
 pub insert_marked_spec : {M : Type 1} → statement M
 insert_marked_spec =

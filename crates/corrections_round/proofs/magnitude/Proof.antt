@@ -4,19 +4,19 @@ use Rattle.arith.proofs.Machine.{negated_fits, size_negated, negated_casts, itse
 use Rattle.corrections_round.proofs.magnitude.Statement.{statement}
 use Rattle.corrections_round.proofs.magnitude.Tie as tie
 
-sub-result : tie.Need-overflow-sub-result
-sub-result c = negated_fits c.before.args.z (omega arith)
+sub-result : tie.Need-overflow_sub-result
+sub-result c = negated_fits c.args.z (omega arith)
 
-cast-result : tie.Need-overflow-cast-result
-cast-result c = negated_casts c.before.args.z (omega arith) c.if1.true
+cast-result : tie.Need-overflow_cast-result
+cast-result c = negated_casts c.args.z (omega arith) c.if-z-lt0.true
 
-returns : tie.Need-returns
-returns c = size_negated c.before.args.z (omega arith)
+returns : tie.Need-returns-then-z-lt0
+returns c = size_negated c.args.z (omega arith)
 
-cast-result-2 : tie.Need-overflow-cast-result-2
-cast-result-2 c = itself_casts c.before.args.z (omega arith) c.if1.false
+cast-result-2 : tie.Need-overflow_cast-result-2
+cast-result-2 c = itself_casts c.args.z (omega arith) c.if-z-lt0.false
 
-returns-2 : tie.Need-returns-2
+returns-2 : tie.Need-returns
 returns-2 c = search rules
 
 pub magnitude_spec : {M : Type 1} → statement M

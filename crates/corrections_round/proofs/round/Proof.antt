@@ -12,39 +12,39 @@ magnitude-requires : tie.Need-magnitude-requires
 magnitude-requires c κs = omega (arith, ap nat_abs (back_64 c.args.sum (omega arith)))
 
 magnitude-requires-2 : tie.Need-magnitude-requires-2
-magnitude-requires-2 c κs = omega (arith, ap nat_abs (back_64 c.before.args.volume (omega arith)))
+magnitude-requires-2 c κs = omega (arith, ap nat_abs (back_64 c.args.volume (omega arith)))
 
-quotient-requires : tie.Need-quotient-requires
+quotient-requires : tie.Need-quotient-q-requires
 quotient-requires c κs =
     let s = c.before.before in
     let e = ap nat_abs (back_64 s.args.sum (omega arith)) in
     let k = ap nat_abs (back_64 s.args.volume (omega arith)) in
     (omega arith, omega (arithℤ, abs_parts s.args.volume), omega arith)
 
-cast-result : tie.Need-overflow-cast-result
+cast-result : tie.Need-overflow_cast-result
 cast-result c =
     let s = c.before.before.before.before in
-    quotient_fits s.args.sum s.args.volume s.requires c.before.before.before.magnitude.ensures c.before.before.magnitude2.ensures c.before.quotient.ensures
+    quotient_fits s.args.sum s.args.volume s.requires c.magnitude.ensures c.magnitude-2.ensures c.quotient-q.ensures
 
-sub-result : tie.Need-overflow-sub-result
+sub-result : tie.Need-overflow_sub-result
 sub-result c =
     let s = c.before.before.before.before in
-    opposite_fits s.args.sum s.args.volume s.requires c.before.before.before.magnitude.ensures c.before.before.magnitude2.ensures c.before.quotient.ensures
+    opposite_fits s.args.sum s.args.volume s.requires c.magnitude.ensures c.magnitude-2.ensures c.quotient-q.ensures
 
-returns : tie.Need-returns
+returns : tie.Need-returns-then-sum-lt0
 returns c =
     let s = c.before.before.before.before in
-    nearest_below s.args.sum s.args.volume s.requires c.before.before.before.magnitude.ensures c.before.before.magnitude2.ensures c.before.quotient.ensures c.if1.true
+    nearest_below s.args.sum s.args.volume s.requires c.magnitude.ensures c.magnitude-2.ensures c.quotient-q.ensures c.if-sum-lt0.true
 
-cast-result-2 : tie.Need-overflow-cast-result-2
+cast-result-2 : tie.Need-overflow_cast-result-2
 cast-result-2 c =
     let s = c.before.before.before.before in
-    quotient_fits s.args.sum s.args.volume s.requires c.before.before.before.magnitude.ensures c.before.before.magnitude2.ensures c.before.quotient.ensures
+    quotient_fits s.args.sum s.args.volume s.requires c.magnitude.ensures c.magnitude-2.ensures c.quotient-q.ensures
 
-returns-2 : tie.Need-returns-2
+returns-2 : tie.Need-returns
 returns-2 c =
     let s = c.before.before.before.before in
-    nearest_not_below s.args.sum s.args.volume s.requires c.before.before.before.magnitude.ensures c.before.before.magnitude2.ensures c.before.quotient.ensures c.if1.false
+    nearest_not_below s.args.sum s.args.volume s.requires c.magnitude.ensures c.magnitude-2.ensures c.quotient-q.ensures c.if-sum-lt0.false
 
 pub round_spec : {M : Type 1} → statement M
 round_spec = tie.close (tie.spec magnitude-requires magnitude-requires-2 quotient-requires cast-result sub-result returns cast-result-2 returns-2)

@@ -10,38 +10,38 @@ use Rattle.corrections.proofs.Starting.{one_cleared}
 use Rattle.corrections_start.proofs.clear_corners.Statement.{statement}
 use Rattle.corrections_start.proofs.clear_corners.Tie as tie
 
-abbrev invariant-loop : tie.invariant-loop
+abbrev invariant-loop : tie.invariant-loop-i
 invariant-loop corrections₀ none i₀ corrections i = (i ≤ 24) × (length corrections ≡ length corrections₀) × (corrections ≡ replicate i (pos 0) ++ drop i corrections₀)
 
-abbrev decreases-loop : tie.decreases-loop
+abbrev decreases-loop : tie.decreases-loop-i
 decreases-loop corrections₀ none i₀ corrections i = 24 - i
 
-loop-holds : tie.Need-loop-init invariant-loop decreases-loop
+loop-holds : tie.Need-loop-i-init invariant-loop decreases-loop
 loop-holds c = (omega arith, refl, refl)
 
-mul-none : tie.Need-overflow-mul-none invariant-loop decreases-loop
+mul-none : tie.Need-offset_bounds-corrections-i invariant-loop decreases-loop
 mul-none c = omega arith
 
-slice-set-from-none : tie.Need-slice-set-from-none invariant-loop decreases-loop
-slice-set-from-none c = omega (arith, c.before.loop.invariant.1, c.before.before.requires)
+slice-set-from-none : tie.Need-bounds-corrections-i invariant-loop decreases-loop
+slice-set-from-none c = omega (arith, c.loop-i.invariant.1, c.requires)
 
-add-i : tie.Need-overflow-add-i invariant-loop decreases-loop
+add-i : tie.Need-overflow_add-i invariant-loop decreases-loop
 add-i c = omega arith
 
-loop-less : tie.Need-loop-smaller invariant-loop decreases-loop
+loop-less : tie.Need-loop-i-smaller invariant-loop decreases-loop
 loop-less c = omega arith
 
-loop-again : tie.Need-loop-preserved invariant-loop decreases-loop
+loop-again : tie.Need-loop-i-preserved invariant-loop decreases-loop
 loop-again c =
-    let l = c.before.loop in
-    (omega arith, simp length-set l.invariant.1, rw l.invariant.2 (one_cleared l.i c.before.before.args.corrections.now (omega (arith, c.before.before.requires))))
+    let l = c.loop-i in
+    (omega arith, simp length-set l.invariant.1, rw l.invariant.2 (one_cleared l.i c.args.corrections.now (omega (arith, c.requires))))
 
-same_length : tie.Need-same-length invariant-loop decreases-loop
-same_length c = c.before.loop.invariant.1
+same_length : tie.Need-shape_of-corrections invariant-loop decreases-loop
+same_length c = c.loop-i.invariant.1
 
 returns : tie.Need-returns invariant-loop decreases-loop
 unfolding corners_cleared
-returns c = let l = c.before.loop in let e : l.i ≡ 24 = omega (arith, l.invariant.0) in l.invariant.2 ∙ ap (λ i. replicate i (pos 0) ++ drop i c.before.before.args.corrections.now) e
+returns c = let l = c.loop-i in let e : l.i ≡ 24 = omega (arith, l.invariant.0) in l.invariant.2 ∙ ap (λ i. replicate i (pos 0) ++ drop i c.args.corrections.now) e
 
 pub clear_corners_spec : {M : Type 1} → statement M
 clear_corners_spec =

@@ -1,3 +1,4 @@
+use Rattle.std.proofs.lemmas.Bool.{not_from_false, not_from_true}
 use mathlib.Core.Path.{sym, ap, ◌∙◌}
 use native.Mathlib.Omega.{arith}
 use lib.ListN.{length}
@@ -10,35 +11,35 @@ use borrow.Author.Rules.{rules}
 use Rattle.corrections_tests.proofs.early_refusal.Statement.{statement}
 use Rattle.corrections_tests.proofs.early_refusal.Tie as tie
 
-in-box-requires : tie.Need-in-box-requires
+in-box-requires : tie.Need-in_box-requires
 in-box-requires c κs = search rules
 
-returns : tie.Need-returns
-returns c = λ ks ns. early_outside _ _ _ (test_failed c.before.in_box_lem.ensures c.if1.true)
+returns : tie.Need-returns-then-not-in_box
+returns c = λ ks ns. early_outside _ _ _ (test_failed c.in_box.ensures (not_from_false _ c.if-not-in_box.true))
 
-cast-np : tie.Need-overflow-cast-np
+cast-np : tie.Need-overflow_cast-np
 cast-np c = search rules
 
-side-codes-requires : tie.Need-side-codes-requires
+side-codes-requires : tie.Need-side_codes-codes-requires
 side-codes-requires c κs = search rules
 
-slice-aggregate-some-zero : tie.Need-slice-aggregate-some-zero
+slice-aggregate-some-zero : tie.Need-slice_bounds-some_zero-end
 slice-aggregate-some-zero c = search rules
 
-some-zero-requires : tie.Need-some-zero-requires
-some-zero-requires c κs = omega (arith, ap length c.before.side-codes.ensures ∙ side_codes_length _ _ _, c.before.before.before.before.before.before.requires.0)
+some-zero-requires : tie.Need-some_zero-requires
+some-zero-requires c κs = omega (arith, ap length c.side_codes-codes.ensures ∙ side_codes_length _ _ _, c.requires.0)
 
-returns-2 : tie.Need-returns-2
+returns-2 : tie.Need-returns-then-some_zero
 returns-2 c =
     let s = c.before.before.before.before.before.before.before.before in
-    λ ks ns. early_taken _ _ _ (test_passed c.before.before.before.before.before.before.in_box_lem.ensures c.before.before.before.before.before.if1.false)
-    (sym (c.before.some-zero.ensures ∙ taken_is (tables s.args.points.now ks ns) s.args.mesh.points s.args.q s.requires.0 c.before.before.before.side-codes.ensures) ∙ c.if2.true)
+    λ ks ns. early_taken _ _ _ (test_passed c.in_box.ensures (not_from_true _ c.if-not-in_box.false))
+    (sym (c.some_zero.ensures ∙ taken_is (tables s.args.points.now ks ns) s.args.mesh.points s.args.q s.requires.0 c.side_codes-codes.ensures) ∙ c.if-some_zero.true)
 
-returns-3 : tie.Need-returns-3
+returns-3 : tie.Need-returns
 returns-3 c =
     let s = c.before.before.before.before.before.before.before.before in
-    λ ks ns. early_wrong _ _ _ (test_passed c.before.before.before.before.before.before.in_box_lem.ensures c.before.before.before.before.before.if1.false)
-    (sym (c.before.some-zero.ensures ∙ taken_is (tables s.args.points.now ks ns) s.args.mesh.points s.args.q s.requires.0 c.before.before.before.side-codes.ensures) ∙ c.if2.false)
+    λ ks ns. early_wrong _ _ _ (test_passed c.in_box.ensures (not_from_true _ c.if-not-in_box.false))
+    (sym (c.some_zero.ensures ∙ taken_is (tables s.args.points.now ks ns) s.args.mesh.points s.args.q s.requires.0 c.side_codes-codes.ensures) ∙ c.if-some_zero.false)
 
 pub early_refusal_spec : {M : Type 1} → statement M
 early_refusal_spec =

@@ -4,64 +4,64 @@ use Rattle.corrections_value.proofs.Words.{read_small, ratio_within, value_fits,
 use Rattle.corrections_value.proofs.axis_value.Statement.{statement}
 use Rattle.corrections_value.proofs.axis_value.Tie as tie
 
-array-read-number-at : tie.Need-array-read-number-at
+array-read-number-at : tie.Need-bounds-k-0
 array-read-number-at c = search rules
 
-cast-number-at : tie.Need-overflow-cast-number-at
+cast-number-at : tie.Need-overflow_cast-k
 cast-number-at c = search rules
 
-number-at-requires : tie.Need-number-at-requires
+number-at-requires : tie.Need-number_at-a-requires
 number-at-requires c κs = (c.requires.3 0 (omega arith)).0
 
-array-read-number-at-2 : tie.Need-array-read-number-at-2
+array-read-number-at-2 : tie.Need-bounds-k-1
 array-read-number-at-2 c = search rules
 
-cast-number-at-2 : tie.Need-overflow-cast-number-at-2
+cast-number-at-2 : tie.Need-overflow_cast-k-2
 cast-number-at-2 c = search rules
 
-number-at-requires-2 : tie.Need-number-at-requires-2
-number-at-requires-2 c κs = (c.before.requires.3 1 (omega arith)).0
+number-at-requires-2 : tie.Need-number_at-b-requires
+number-at-requires-2 c κs = (c.requires.3 1 (omega arith)).0
 
-array-read-number-at-3 : tie.Need-array-read-number-at-3
+array-read-number-at-3 : tie.Need-bounds-k-2
 array-read-number-at-3 c = search rules
 
-cast-number-at-3 : tie.Need-overflow-cast-number-at-3
+cast-number-at-3 : tie.Need-overflow_cast-k-3
 cast-number-at-3 c = search rules
 
-number-at-requires-3 : tie.Need-number-at-requires-3
-number-at-requires-3 c κs = (c.before.before.requires.3 2 (omega arith)).0
+number-at-requires-3 : tie.Need-number_at-c-requires
+number-at-requires-3 c κs = (c.requires.3 2 (omega arith)).0
 
-array-read-number-at-4 : tie.Need-array-read-number-at-4
+array-read-number-at-4 : tie.Need-bounds-k-3
 array-read-number-at-4 c = search rules
 
-cast-number-at-4 : tie.Need-overflow-cast-number-at-4
+cast-number-at-4 : tie.Need-overflow_cast-k-4
 cast-number-at-4 c = search rules
 
-number-at-requires-4 : tie.Need-number-at-requires-4
-number-at-requires-4 c κs = (c.before.before.before.requires.3 3 (omega arith)).0
+number-at-requires-4 : tie.Need-number_at-d-requires
+number-at-requires-4 c κs = (c.requires.3 3 (omega arith)).0
 
-weighted-sum-requires : tie.Need-weighted-sum-requires
+weighted-sum-requires : tie.Need-weighted_sum-requires
 weighted-sum-requires c κs =
     let s = c.before.before.before.before in
-    read_small s.args.corrections.now s.args.t2 s.args.axis s.args.v s.requires c.before.before.before.number_at.ensures c.before.before.number-at2.ensures c.before.number-at3.ensures c.number-at4.ensures
+    read_small s.args.corrections.now s.args.k s.args.axis s.args.v s.requires c.number_at-a.ensures c.number_at-b.ensures c.number_at-c.ensures c.number_at-d.ensures
 
-cell-volume-requires : tie.Need-cell-volume-requires
-cell-volume-requires c κs = let h = c.before.before.before.before.before.requires in (h.0, h.2)
+cell-volume-requires : tie.Need-cell_volume-requires
+cell-volume-requires c κs = let h = c.requires in (h.0, h.2)
 
 round-requires : tie.Need-round-requires
 round-requires c κs =
     let s = c.before.before.before.before.before.before in
-    ratio_within s.args.corrections.now s.args.t2 s.args.axis s.args.v s.requires c.before.before.before.before.before.number_at.ensures c.before.before.before.before.number-at2.ensures c.before.before.before.number-at3.ensures c.before.before.number-at4.ensures c.before.weighted-sum.ensures c.cell-volume.ensures
+    ratio_within s.args.corrections.now s.args.k s.args.axis s.args.v s.requires c.number_at-a.ensures c.number_at-b.ensures c.number_at-c.ensures c.number_at-d.ensures c.weighted_sum.ensures c.cell_volume.ensures
 
-cast-result : tie.Need-overflow-cast-result
+cast-result : tie.Need-overflow_cast-result
 cast-result c =
     let s = c.before.before.before.before.before.before.before in
-    value_fits s.args.corrections.now s.args.t2 s.args.axis s.args.v s.requires c.before.before.before.before.before.before.number_at.ensures c.before.before.before.before.before.number-at2.ensures c.before.before.before.before.number-at3.ensures c.before.before.before.number-at4.ensures c.before.before.weighted-sum.ensures c.before.cell-volume.ensures c.round.ensures
+    value_fits s.args.corrections.now s.args.k s.args.axis s.args.v s.requires c.number_at-a.ensures c.number_at-b.ensures c.number_at-c.ensures c.number_at-d.ensures c.weighted_sum.ensures c.cell_volume.ensures c.round.ensures
 
 returns : tie.Need-returns
 returns c =
     let s = c.before.before.before.before.before.before.before in
-    value_is s.args.corrections.now s.args.t2 s.args.axis s.args.v s.requires c.before.before.before.before.before.before.number_at.ensures c.before.before.before.before.before.number-at2.ensures c.before.before.before.before.number-at3.ensures c.before.before.before.number-at4.ensures c.before.before.weighted-sum.ensures c.before.cell-volume.ensures c.round.ensures
+    value_is s.args.corrections.now s.args.k s.args.axis s.args.v s.requires c.number_at-a.ensures c.number_at-b.ensures c.number_at-c.ensures c.number_at-d.ensures c.weighted_sum.ensures c.cell_volume.ensures c.round.ensures
 
 pub axis_value_spec : {M : Type 1} → statement M
 axis_value_spec = tie.close (tie.spec array-read-number-at cast-number-at number-at-requires array-read-number-at-2 cast-number-at-2 number-at-requires-2 array-read-number-at-3 cast-number-at-3 number-at-requires-3 array-read-number-at-4 cast-number-at-4 number-at-requires-4 weighted-sum-requires cell-volume-requires round-requires cast-result returns)

@@ -2,13 +2,13 @@ use Rattle.corrections_value.proofs.Words.{volumes₂_fit, volumes₃_fit, volum
 use Rattle.corrections_value.proofs.cell_volume.Statement.{statement}
 use Rattle.corrections_value.proofs.cell_volume.Tie as tie
 
-add-result : tie.Need-overflow-add-result
+add-result : tie.Need-overflow_add-result
 add-result c = let s = c.before.before in volumes₂_fit s.args.v s.requires
 
-add-result-2 : tie.Need-overflow-add-result-2
+add-result-2 : tie.Need-overflow_add-result-2
 add-result-2 c = let s = c.before.before.before.before in volumes₃_fit s.args.v s.requires
 
-add-result-3 : tie.Need-overflow-add-result-3
+add-result-3 : tie.Need-overflow_add-result-3
 add-result-3 c = let s = c.before.before.before.before.before.before in volumes₄_fit s.args.v s.requires
 
 returns : tie.Need-returns

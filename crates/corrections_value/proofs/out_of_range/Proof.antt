@@ -1,3 +1,4 @@
+use Rattle.std.proofs.lemmas.Bool.{not_from_false, not_from_true}
 use Prim.Native.Nat.{◌*◌, ◌-◌, ◌≤◌}
 use mathlib.Core.Bool.{false, not, ◌||◌}
 use mathlib.Core.Path.{◌≡◌, sym, ap, ap₂, ◌∙◌}
@@ -12,51 +13,51 @@ use Rattle.corrections_value.proofs.Words.{tested}
 use Rattle.corrections_value.proofs.out_of_range.Statement.{statement}
 use Rattle.corrections_value.proofs.out_of_range.Tie as tie
 
-abbrev invariant-loop : tie.invariant-loop
+abbrev invariant-loop : tie.invariant-loop-i
 invariant-loop corrections np n i₀ i = (i ≤ n) × (any_below i (λ k. not (in_range (get_or corrections k (pos 0)))) ≡ false)
 
-abbrev decreases-loop : tie.decreases-loop
+abbrev decreases-loop : tie.decreases-loop-i
 decreases-loop corrections np n i₀ i = n - i
 
-mul-n : tie.Need-overflow-mul-n invariant-loop decreases-loop
+mul-n : tie.Need-overflow_mul-n invariant-loop decreases-loop
 mul-n c = search rules
 
-loop-holds : tie.Need-loop-init invariant-loop decreases-loop
+loop-holds : tie.Need-loop-i-init invariant-loop decreases-loop
 unfolding any_below
 loop-holds c = search rules
 
-mul-in-range : tie.Need-overflow-mul-in-range invariant-loop decreases-loop
+mul-in-range : tie.Need-offset_bounds-corrections-i invariant-loop decreases-loop
 mul-in-range c = search rules
 
-shared-slice-copy-out-in-range : tie.Need-shared-slice-copy-out-in-range invariant-loop decreases-loop
+shared-slice-copy-out-in-range : tie.Need-bounds-corrections-i invariant-loop decreases-loop
 shared-slice-copy-out-in-range c = search rules
 
-in-range-requires : tie.Need-in-range-requires invariant-loop decreases-loop
+in-range-requires : tie.Need-in_range-requires invariant-loop decreases-loop
 in-range-requires c κs = tt
 
-returns : tie.Need-returns invariant-loop decreases-loop
+returns : tie.Need-returns-then-not-in_range invariant-loop decreases-loop
 unfolding out_of_range
 returns c =
-    let i = c.before.before.before.before.loop.i in
-    sym (any_intro _ _ i (search rules) (tested _ c.before.before.in-range-arg.given c.before.in_range.ensures ∙ c.if1.true))
+    let i = c.loop-i.i in
+    sym (any_intro _ _ i (search rules) (tested _ c.in_range-arg-1.given c.in_range.ensures ∙ (not_from_false _ c.if-not-in_range.true)))
 
-add-i : tie.Need-overflow-add-i invariant-loop decreases-loop
+add-i : tie.Need-overflow_add-i invariant-loop decreases-loop
 add-i c = search rules
 
-loop-less : tie.Need-loop-smaller invariant-loop decreases-loop
+loop-less : tie.Need-loop-i-smaller invariant-loop decreases-loop
 loop-less c = search rules
 
-loop-again : tie.Need-loop-preserved invariant-loop decreases-loop
+loop-again : tie.Need-loop-i-preserved invariant-loop decreases-loop
 loop-again c =
-    let l = c.before.before.before.before.loop in
-    (search rules, any_more l.i _ ∙ ap₂ ◌||◌ (tested _ c.before.before.in-range-arg.given c.before.in_range.ensures ∙ c.if1.false) l.invariant.1)
+    let l = c.loop-i in
+    (search rules, any_more l.i _ ∙ ap₂ ◌||◌ (tested _ c.in_range-arg-1.given c.in_range.ensures ∙ (not_from_true _ c.if-not-in_range.false)) l.invariant.1)
 
-returns-2 : tie.Need-returns-2 invariant-loop decreases-loop
+returns-2 : tie.Need-returns invariant-loop decreases-loop
 unfolding out_of_range
 returns-2 c =
-    let l = c.before.loop in
-    let e : l.i ≡ 3 * c.before.before.args.np = omega arith in
-    sym (ap (λ n. any_below n (λ k. not (in_range (get_or c.before.before.args.corrections.now k (pos 0))))) (sym e) ∙ l.invariant.1)
+    let l = c.loop-i in
+    let e : l.i ≡ 3 * c.args.np = omega arith in
+    sym (ap (λ n. any_below n (λ k. not (in_range (get_or c.args.corrections.now k (pos 0))))) (sym e) ∙ l.invariant.1)
 
 pub out_of_range_spec : {M : Type 1} → statement M
 out_of_range_spec =

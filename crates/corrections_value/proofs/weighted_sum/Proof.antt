@@ -3,25 +3,25 @@ use Rattle.corrections_value.proofs.Words.{term_fits, terms₂_fit, terms₃_fit
 use Rattle.corrections_value.proofs.weighted_sum.Statement.{statement}
 use Rattle.corrections_value.proofs.weighted_sum.Tie as tie
 
-mul-result : tie.Need-overflow-mul-result
+mul-result : tie.Need-overflow_mul-result
 mul-result c = let s = c.before.before in term_fits s.args.v s.args.a s.args.b s.args.c s.args.d s.requires 0 (omega arith)
 
-mul-result-2 : tie.Need-overflow-mul-result-2
+mul-result-2 : tie.Need-overflow_mul-result-2
 mul-result-2 c = let s = c.before.before.before.before in term_fits s.args.v s.args.a s.args.b s.args.c s.args.d s.requires 1 (omega arith)
 
-add-result : tie.Need-overflow-add-result
+add-result : tie.Need-overflow_add-result
 add-result c = let s = c.before.before.before.before in terms₂_fit s.args.v s.args.a s.args.b s.args.c s.args.d s.requires
 
-mul-result-3 : tie.Need-overflow-mul-result-3
+mul-result-3 : tie.Need-overflow_mul-result-3
 mul-result-3 c = let s = c.before.before.before.before.before.before in term_fits s.args.v s.args.a s.args.b s.args.c s.args.d s.requires 2 (omega arith)
 
-add-result-2 : tie.Need-overflow-add-result-2
+add-result-2 : tie.Need-overflow_add-result-2
 add-result-2 c = let s = c.before.before.before.before.before.before in terms₃_fit s.args.v s.args.a s.args.b s.args.c s.args.d s.requires
 
-mul-result-4 : tie.Need-overflow-mul-result-4
+mul-result-4 : tie.Need-overflow_mul-result-4
 mul-result-4 c = let s = c.before.before.before.before.before.before.before.before in term_fits s.args.v s.args.a s.args.b s.args.c s.args.d s.requires 3 (omega arith)
 
-add-result-3 : tie.Need-overflow-add-result-3
+add-result-3 : tie.Need-overflow_add-result-3
 add-result-3 c = let s = c.before.before.before.before.before.before.before.before in terms₄_fit s.args.v s.args.a s.args.b s.args.c s.args.d s.requires
 
 returns : tie.Need-returns

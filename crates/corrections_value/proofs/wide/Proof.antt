@@ -3,7 +3,7 @@ use Rattle.corrections_value.proofs.Words.{widened_fits, widened}
 use Rattle.corrections_value.proofs.wide.Statement.{statement}
 use Rattle.corrections_value.proofs.wide.Tie as tie
 
-cast-result : tie.Need-overflow-cast-result
+cast-result : tie.Need-overflow_cast-result
 cast-result c = widened_fits c.args.x c.ranges.x.sfits
 
 returns : tie.Need-returns

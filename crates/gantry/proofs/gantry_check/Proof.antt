@@ -4,11 +4,11 @@ use Rattle.gantry.proofs.gantry_check.Tie as tie
 check-requires : tie.Need-check-requires
 check-requires c κs = tt
 
-same_length : tie.Need-same-length
-same_length c = c.before.before.check.auto.1.1.1.1.0
+same_length : tie.Need-shape_of-work
+same_length c = c.check.auto.1.1.1.1.0
 
 returns : tie.Need-returns
-returns c = c.before.before.check.ensures
+returns c = c.check.ensures
 
 pub gantry_check_spec : {M : Type 1} → statement M
 gantry_check_spec = tie.close (tie.spec check-requires same_length returns)

@@ -10,11 +10,11 @@ correction-requires c κs = search rules
 corrected-requires : tie.Need-corrected-requires
 corrected-requires c κs = search rules
 
-same_length : tie.Need-same-length
+same_length : tie.Need-shape_of-work
 same_length c = search rules
 
 returns : tie.Need-returns
-returns c = let r = c.before.before.before.correction.ensures in record { answer = c.corrected.ensures ∙ ap corrected_of r.0; work = r.1 }
+returns c = let r = c.correction.ensures in record { answer = c.corrected.ensures ∙ ap corrected_of r.0; work = r.1 }
 
 pub gantry_correction_spec : {M : Type 1} → statement M
 gantry_correction_spec =

@@ -2,20 +2,20 @@ use Rattle.gantry.proofs.gantry_drive_cells.Statement.{statement}
 use Rattle.gantry.proofs.gantry_drive_cells.Tie as tie
 use Rattle.gantry_numbers.proofs.Handing.{lists_cells}
 
-segment-cells-requires : tie.Need-segment-cells-requires
+segment-cells-requires : tie.Need-segment_cells-requires
 segment-cells-requires c κs = tt
 
 counted-requires : tie.Need-counted-requires
 counted-requires c κs = tt
 
-same_length : tie.Need-same-length
-same_length c = c.before.before.before.before.before.segment-cells.auto.1.1.1.1.0
+same_length : tie.Need-shape_of-work
+same_length c = c.segment_cells.auto.1.1.1.1.0
 
-same-length-2 : tie.Need-same-length-2
-same-length-2 c = c.before.before.before.before.before.segment-cells.auto.1.1.1.1.1.1.1.0
+same-length-2 : tie.Need-shape_of-cells
+same-length-2 c = c.segment_cells.auto.1.1.1.1.1.1.1.0
 
 returns : tie.Need-returns
-returns c = lists_cells c.before.before.before.before.before.segment-cells.ensures c.counted.ensures
+returns c = lists_cells c.segment_cells.ensures c.counted.ensures
 
 pub gantry_drive_cells_spec : {M : Type 1} → statement M
 gantry_drive_cells_spec =

@@ -4,29 +4,29 @@ use borrow.Author.Rules.{rules}
 use Rattle.gantry.proofs.gantry_insert_marked.Statement.{statement}
 use Rattle.gantry.proofs.gantry_insert_marked.Tie as tie
 
-insert-marked-requires : tie.Need-insert-marked-requires
+insert-marked-requires : tie.Need-insert_marked-answer-requires
 insert-marked-requires c κs = search rules
 
 inserted-requires : tie.Need-inserted-requires
 inserted-requires c κs = search rules
 
-same_length : tie.Need-same-length
+same_length : tie.Need-shape_of-points
 same_length c = search rules
 
-same-length-2 : tie.Need-same-length-2
+same-length-2 : tie.Need-shape_of-corners
 same-length-2 c = search rules
 
-same-length-3 : tie.Need-same-length-3
+same-length-3 : tie.Need-shape_of-neighbours
 same-length-3 c = search rules
 
-same-length-4 : tie.Need-same-length-4
+same-length-4 : tie.Need-shape_of-work
 same-length-4 c = search rules
 
-same-length-5 : tie.Need-same-length-5
+same-length-5 : tie.Need-shape_of-corrections
 same-length-5 c = search rules
 
 returns : tie.Need-returns
-returns c = gives (inserted_of c.before.before.before.before.before.before.before.before.before.before.before.before.before.before.before.before.before.before.before.before.before.args.mesh) c.before.before.before.before.before.before.before.before.before.before.insert-marked.ensures c.inserted.ensures
+returns c = gives (inserted_of c.args.mesh) c.insert_marked-answer.ensures c.inserted.ensures
 
 pub gantry_insert_marked_spec : {M : Type 1} → statement M
 gantry_insert_marked_spec =

@@ -9,11 +9,11 @@ locate-requires c κs = tt
 located-requires : tie.Need-located-requires
 located-requires c κs = tt
 
-same_length : tie.Need-same-length
-same_length c = c.before.before.before.locate.auto.1.1.1.1.0
+same_length : tie.Need-shape_of-work
+same_length c = c.locate.auto.1.1.1.1.0
 
 returns : tie.Need-returns
-returns c = record { answer = c.located.ensures ∙ ap located_of c.before.before.before.locate.ensures.0; work = c.before.before.before.locate.ensures.1 }
+returns c = record { answer = c.located.ensures ∙ ap located_of c.locate.ensures.0; work = c.locate.ensures.1 }
 
 pub gantry_locate_spec : {M : Type 1} → statement M
 gantry_locate_spec =

@@ -8,11 +8,11 @@ merge-requires c κs = tt
 written-requires : tie.Need-written-requires
 written-requires c κs = tt
 
-same_length : tie.Need-same-length
-same_length c = c.before.before.before.merge.auto.1.1.0
+same_length : tie.Need-shape_of-out
+same_length c = c.merge.auto.1.1.0
 
 returns : tie.Need-returns
-returns c = merges c.before.before.before.merge.ensures c.written.ensures
+returns c = merges c.merge.ensures c.written.ensures
 
 pub gantry_merge_spec : {M : Type 1} → statement M
 gantry_merge_spec = tie.close (tie.spec merge-requires written-requires same_length returns)

@@ -14,18 +14,18 @@ use Rattle.gantry.proofs.gantry_set_correction.Tie as tie
 read_back : (x y z : ℤ) → SFits w32 x → SFits w32 y → SFits w32 z → ◌≡◌ {A = Correction} record { x = back w32 x; y = back w32 y; z = back w32 z } record { x = x; y = y; z = z }
 read_back x y z hx hy hz = λ i. record { x = to_z-of_z w32 x hx i; y = to_z-of_z w32 y hy i; z = to_z-of_z w32 z hz i }
 
-set-correction-requires : tie.Need-set-correction-requires
+set-correction-requires : tie.Need-set_correction-requires
 set-correction-requires c κs = search rules
 
-same_length : tie.Need-same-length
+same_length : tie.Need-shape_of-work
 same_length c = search rules
 
-same-length-2 : tie.Need-same-length-2
+same-length-2 : tie.Need-shape_of-corrections
 same-length-2 c = search rules
 
 returns : tie.Need-returns
 returns c =
-    let e = c.before.before.before.set-correction.ensures in
+    let e = c.set_correction.ensures in
     let s = c.before.before.before.before.before.before.before.before.before.before in
     let q = read_back s.args.x s.args.y s.args.z s.ranges.x s.ranges.y s.ranges.z in
     (e.0 ∙ ap (set_refusal _ _ _ _ _) q, e.1 ∙ ap (set_table _ _ _ _ _) q, e.2)

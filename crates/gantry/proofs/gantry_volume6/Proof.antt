@@ -11,8 +11,8 @@ volume6-requires c κs = tt
 
 returns : tie.Need-returns
 returns c =
-    let f = c.before.ranges in
-    let same = to_z-of_z {w = w64} (record { sfits = c.volume6.type-inv }) in
+    let f = c.ranges in
+    let same = to_z-of_z {w = w64} (record { sfits = c.volume6.type_inv }) in
     let v =
     rw (
       to_z-of_z f.ax,

@@ -4,19 +4,19 @@ use Rattle.gantry_numbers.proofs.counted.Tie as tie
 use mathlib.Core.Path.{sym, ap}
 use Rattle.gantry_numbers.specs.Numbers.{counted_of}
 
-enum-known-answer : tie.Need-enum-known-answer
+enum-known-answer : tie.Need-enum_known-answer
 enum-known-answer c = search rules
 
-enum-known-answer-2 : tie.Need-enum-known-answer-2
+enum-known-answer-2 : tie.Need-enum_known-answer-in-Refused-1
 enum-known-answer-2 c = search rules
 
-returns : tie.Need-returns
+returns : tie.Need-returns-in-Count
 unfolding counted_of
 returns c = sym (ap counted_of c.before.answer.given.1)
 
-returns-2 : tie.Need-returns-2
+returns-2 : tie.Need-returns-in-Refused
 unfolding counted_of
-returns-2 c = sym (ap counted_of c.before.answer2.given.1)
+returns-2 c = sym (ap counted_of c.answer-in-Refused-1.given.1)
 
 pub counted_spec : {M : Type 1} → statement M
 counted_spec = tie.close (tie.spec enum-known-answer enum-known-answer-2 returns returns-2)

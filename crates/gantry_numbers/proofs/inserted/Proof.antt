@@ -5,19 +5,19 @@ use mathlib.Core.Path.{sym, ap}
 use lib.Ieee.{of_bits}
 use Rattle.gantry_numbers.specs.Numbers.{inserted_of}
 
-enum-known-answer : tie.Need-enum-known-answer
+enum-known-answer : tie.Need-enum_known-answer
 enum-known-answer c = search rules
 
-enum-known-answer-2 : tie.Need-enum-known-answer-2
+enum-known-answer-2 : tie.Need-enum_known-answer-in-Refused-1
 enum-known-answer-2 c = search rules
 
-returns : tie.Need-returns
+returns : tie.Need-returns-in-Accepted
 unfolding inserted_of
-returns c = sym (ap (inserted_of c.before.before.before.args.mesh) c.before.answer.given.1)
+returns c = sym (ap (inserted_of c.args.mesh) c.before.answer.given.1)
 
-returns-2 : tie.Need-returns-2
+returns-2 : tie.Need-returns-in-Refused
 unfolding inserted_of of_bits
-returns-2 c = sym (ap (inserted_of c.before.before.before.args.mesh) c.before.answer2.given.1)
+returns-2 c = sym (ap (inserted_of c.args.mesh) c.answer-in-Refused-1.given.1)
 
 pub inserted_spec : {M : Type 1} → statement M
 inserted_spec =

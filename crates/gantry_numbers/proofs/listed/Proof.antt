@@ -4,26 +4,26 @@ use Rattle.gantry_numbers.proofs.listed.Tie as tie
 use mathlib.Core.Path.{sym, ap}
 use Rattle.gantry_numbers.specs.Numbers.{listed_of}
 
-enum-known-answer : tie.Need-enum-known-answer
+enum-known-answer : tie.Need-enum_known-answer
 enum-known-answer c = search rules
 
-enum-known-answer-2 : tie.Need-enum-known-answer-2
+enum-known-answer-2 : tie.Need-enum_known-answer-in-Stopped-1
 enum-known-answer-2 c = search rules
 
-enum-known-answer-3 : tie.Need-enum-known-answer-3
+enum-known-answer-3 : tie.Need-enum_known-answer-in-Refused-1
 enum-known-answer-3 c = search rules
 
-returns : tie.Need-returns
+returns : tie.Need-returns-in-Ended
 unfolding listed_of
-returns c = sym (ap (listed_of c.before.before.before.args.mesh) c.before.answer.given.1)
+returns c = sym (ap (listed_of c.args.mesh) c.before.answer.given.1)
 
-returns-2 : tie.Need-returns-2
+returns-2 : tie.Need-returns-in-Stopped
 unfolding listed_of
-returns-2 c = sym (ap (listed_of c.before.before.before.args.mesh) c.before.answer2.given.1)
+returns-2 c = sym (ap (listed_of c.args.mesh) c.answer-in-Stopped-1.given.1)
 
-returns-3 : tie.Need-returns-3
+returns-3 : tie.Need-returns-in-Refused
 unfolding listed_of
-returns-3 c = sym (ap (listed_of c.before.before.before.args.mesh) c.before.answer3.given.1)
+returns-3 c = sym (ap (listed_of c.args.mesh) c.answer-in-Refused-1.given.1)
 
 pub listed_spec : {M : Type 1} → statement M
 listed_spec =

@@ -4,7 +4,7 @@ use Rattle.insertion.proofs.Looking.{byte_is}
 use Rattle.insertion_marks.proofs.mark_of.Statement.{statement}
 use Rattle.insertion_marks.proofs.mark_of.Tie as tie
 
-cast-result : tie.Need-overflow-cast-result
+cast-result : tie.Need-overflow_cast-result
 cast-result c = search rules
 
 returns : tie.Need-returns

@@ -12,45 +12,45 @@ use Rattle.insertion.proofs.Looking.{marks_length, mark_at}
 use Rattle.insertion_marks.proofs.write_marks.Statement.{statement}
 use Rattle.insertion_marks.proofs.write_marks.Tie as tie
 
-abbrev invariant-loop : tie.invariant-loop
+abbrev invariant-loop : tie.invariant-loop-c
 invariant-loop n state marks₀ c₀ marks c = (c ≤ n) × (length marks ≡ length marks₀) × (marks ≡ take c (state_marks n state) ++ drop c marks₀)
 
-abbrev decreases-loop : tie.decreases-loop
+abbrev decreases-loop : tie.decreases-loop-c
 decreases-loop n state marks₀ c₀ marks c = n - c
 
-loop-holds : tie.Need-loop-init invariant-loop decreases-loop
+loop-holds : tie.Need-loop-c-init invariant-loop decreases-loop
 loop-holds c = (omega arith, refl, refl)
 
-shared-slice-read-mark-of : tie.Need-shared-slice-read-mark-of invariant-loop decreases-loop
+shared-slice-read-mark-of : tie.Need-bounds-state-c invariant-loop decreases-loop
 shared-slice-read-mark-of c = omega arith
 
-mark-of-requires : tie.Need-mark-of-requires invariant-loop decreases-loop
+mark-of-requires : tie.Need-mark_of-requires invariant-loop decreases-loop
 mark-of-requires c κs = search rules
 
-slice-write-marks : tie.Need-slice-write-marks invariant-loop decreases-loop
+slice-write-marks : tie.Need-bounds-marks-c invariant-loop decreases-loop
 slice-write-marks c = omega arith
 
-add-c : tie.Need-overflow-add-c invariant-loop decreases-loop
+add-c : tie.Need-overflow_add-c invariant-loop decreases-loop
 add-c c = omega arith
 
-loop-less : tie.Need-loop-smaller invariant-loop decreases-loop
+loop-less : tie.Need-loop-c-smaller invariant-loop decreases-loop
 loop-less c = omega arith
 
-loop-again : tie.Need-loop-preserved invariant-loop decreases-loop
+loop-again : tie.Need-loop-c-preserved invariant-loop decreases-loop
 loop-again c =
-    let l = c.before.before.before.loop in
-    let a = c.before.before.before.before.before.before.args in
+    let l = c.loop-c in
+    let a = c.args in
     let n = marks_length a.n (inside a.state.now) in
     let e = c.mark_of.ensures ∙ sym (mark_at a.n (inside a.state.now) l.c (omega arith)) in
     (omega arith, simp length-set l.invariant.1, (λ j. set (l.invariant.2 j) l.c (e j)) ∙ copy_more l.c (state_marks a.n a.state.now) a.marks.now (omega arith) (omega arith))
 
-same_length : tie.Need-same-length invariant-loop decreases-loop
-same_length c = c.before.loop.invariant.1
+same_length : tie.Need-shape_of-marks invariant-loop decreases-loop
+same_length c = c.loop-c.invariant.1
 
 returns : tie.Need-returns invariant-loop decreases-loop
 returns c =
-    let l = c.before.loop in
-    let a = c.before.before.before.before.args in
+    let l = c.loop-c in
+    let a = c.args in
     let n = marks_length a.n (inside a.state.now) in
     copy_all l.c _ _ _ l.invariant.2 (omega arith) (omega arith)
 

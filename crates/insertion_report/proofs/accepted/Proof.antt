@@ -3,22 +3,22 @@ use borrow.Author.Rules.{rules}
 use Rattle.insertion_report.proofs.accepted.Statement.{statement}
 use Rattle.insertion_report.proofs.accepted.Tie as tie
 
-cast-after : tie.Need-overflow-cast-after
+cast-after : tie.Need-overflow_cast-after
 cast-after c = search rules
 
-cast-made : tie.Need-overflow-cast-made
+cast-made : tie.Need-overflow_cast-made
 cast-made c = search rules
 
-add-t8 : tie.Need-overflow-add-t8
+add-t8 : tie.Need-overflow_add-result
 add-t8 c = search rules
 
-sub-t9 : tie.Need-overflow-sub-t9
+sub-t9 : tie.Need-overflow_sub-result
 sub-t9 c = search rules
 
-add-t10 : tie.Need-overflow-add-t10
+add-t10 : tie.Need-overflow_add-result-2
 add-t10 c = search rules
 
-cast-t12 : tie.Need-overflow-cast-t12
+cast-t12 : tie.Need-overflow_cast-result-2
 cast-t12 c = search rules
 
 report-requires : tie.Need-report-requires

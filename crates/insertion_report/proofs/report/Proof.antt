@@ -4,13 +4,13 @@ use borrow.Author.Rules.{rules}
 use Rattle.insertion_report.proofs.report.Statement.{statement}
 use Rattle.insertion_report.proofs.report.Tie as tie
 
-cast-t4 : tie.Need-overflow-cast-t4
+cast-t4 : tie.Need-overflow_cast-result
 cast-t4 c = search rules
 
-cast-t5 : tie.Need-overflow-cast-t5
+cast-t5 : tie.Need-overflow_cast-result-2
 cast-t5 c = search rules
 
-cast-t6 : tie.Need-overflow-cast-t6
+cast-t6 : tie.Need-overflow_cast-result-3
 cast-t6 c = search rules
 
 returns : tie.Need-returns

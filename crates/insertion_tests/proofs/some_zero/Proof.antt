@@ -10,32 +10,32 @@ use borrow.Author.Tests.{ne_eqb}
 use Rattle.arith.proofs.Tables.{below_more}
 use Rattle.insertion.proofs.Admission.{no_zero, a_zero}
 
-abbrev invariant-loop : tie.invariant-loop
+abbrev invariant-loop : tie.invariant-loop-k
 invariant-loop codes np k₀ k = (k ≤ np) × ((j : ℕ) → j < k → eqb (get_or codes j 0) 0 ≡ false)
 
-abbrev decreases-loop : tie.decreases-loop
+abbrev decreases-loop : tie.decreases-loop-k
 decreases-loop codes np k₀ k = np - k
 
-loop-holds : tie.Need-loop-init invariant-loop decreases-loop
+loop-holds : tie.Need-loop-k-init invariant-loop decreases-loop
 loop-holds c = (omega arith, λ j l. absurd (omega arith))
 
-shared-slice-read-if1 : tie.Need-shared-slice-read-if1 invariant-loop decreases-loop
-shared-slice-read-if1 c = omega (arith, c.before.before.before.requires)
+shared-slice-read-if1 : tie.Need-bounds-codes-k invariant-loop decreases-loop
+shared-slice-read-if1 c = omega (arith, c.requires)
 
-returns : tie.Need-returns invariant-loop decreases-loop
-returns c = a_zero _ _ c.before.before.before.loop.k (omega arith) c.if1.true
+returns : tie.Need-returns-then-codes-k-eq0 invariant-loop decreases-loop
+returns c = a_zero _ _ c.loop-k.k (omega arith) c.if-codes-k-eq0.true
 
-add-k : tie.Need-overflow-add-k invariant-loop decreases-loop
+add-k : tie.Need-overflow_add-k invariant-loop decreases-loop
 add-k c = omega arith
 
-loop-less : tie.Need-loop-smaller invariant-loop decreases-loop
+loop-less : tie.Need-loop-k-smaller invariant-loop decreases-loop
 loop-less c = omega arith
 
-loop-again : tie.Need-loop-preserved invariant-loop decreases-loop
-loop-again c = (omega arith, below_more _ c.before.before.before.loop.k c.before.before.before.loop.invariant.1 (ne_eqb _ 0 c.if1.false))
+loop-again : tie.Need-loop-k-preserved invariant-loop decreases-loop
+loop-again c = (omega arith, below_more _ c.loop-k.k c.loop-k.invariant.1 (ne_eqb _ 0 c.if-codes-k-eq0.false))
 
-returns-2 : tie.Need-returns-2 invariant-loop decreases-loop
-returns-2 c = no_zero _ _ (λ j l. c.before.loop.invariant.1 j (omega arith))
+returns-2 : tie.Need-returns invariant-loop decreases-loop
+returns-2 c = no_zero _ _ (λ j l. c.loop-k.invariant.1 j (omega arith))
 
 pub some_zero_spec : {M : Type 1} → statement M
 some_zero_spec =

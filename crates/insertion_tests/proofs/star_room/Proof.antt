@@ -7,56 +7,56 @@ use borrow.Author.Rules.{rules}
 use Rattle.insertion_tests.proofs.star_room.Statement.{statement}
 use Rattle.insertion_tests.proofs.star_room.Tie as tie
 
-sort-cells-requires : tie.Need-sort-cells-requires
+sort-cells-requires : tie.Need-sort_cells-requires
 sort-cells-requires c κs =
-    let p = c.before.before.before.before.before.before.before.before.requires in
+    let p = c.requires in
     omega (arith, size≤ p.4, p.1, p.4.entries)
 
-rank-cells-requires : tie.Need-rank-cells-requires
+rank-cells-requires : tie.Need-rank_cells-made-requires
 rank-cells-requires c κs =
-    let p = c.before.before.before.before.before.before.before.before.before.before.before.before.before.requires in
-    let E = sorted_lists p.4 p.1 c.before.before.before.before.sort-cells.ensures in
+    let p = c.requires in
+    let E = sorted_lists p.4 p.1 c.sort_cells.ensures in
     (E.entries, p.2, p.3, omega (arith, size≤ E, p.1), λ k h. omega (arith, E.below k h, p.1))
 
-cell-capacity-requires : tie.Need-cell-capacity-requires
+cell-capacity-requires : tie.Need-cell_capacity-requires
 cell-capacity-requires c κs = search rules
 
-add-if1 : tie.Need-overflow-add-if1
+add-if1 : tie.Need-overflow_add-node
 add-if1 c =
     let s = c.before.before.before.before.before.before.before.before.before.before.before.before.before.before.before.before.before.before in
     let r = c.before.before.before.before in
-    let is = r.before.before.before.before.before.sort-cells.ensures in
-    omega (arith, made_fits _ s.args.node _ (r.rank-cells.ensures _ _ _ _ s.requires.5 (sorted_cells s.requires.4 s.requires.1 is)).0 s.requires.0 s.requires.1)
+    let is = r.sort_cells.ensures in
+    omega (arith, made_fits _ s.args.node _ (r.rank_cells-made.ensures _ _ _ _ s.requires.5 (sorted_cells s.requires.4 s.requires.1 is)).0 s.requires.0 s.requires.1)
 
-same_length : tie.Need-same-length
+same_length : tie.Need-shape_of-list-then-cell_capacity-node
 same_length c = search rules
 
-same-length-2 : tie.Need-same-length-2
+same-length-2 : tie.Need-shape_of-ranks-then-cell_capacity-node
 same-length-2 c = search rules
 
-returns : tie.Need-returns
+returns : tie.Need-returns-then-cell_capacity-node
 unfolding cell_capacity
 returns c =
     let r = c.before.before.before.before.before in
-    let p = r.before.before.before.before.before.before.before.before.before.before.before.before.before.before.requires in
-    let is = r.before.before.before.before.before.sort-cells.ensures in
-    let e = r.rank-cells.ensures _ _ _ _ p.5 (sorted_cells p.4 p.1 is) in
-    (no_room _ _ _ e.0 _ c.before.before.cell-capacity.ensures c.if1.true, sorted_lists p.4 p.1 is, sorted_cells p.4 p.1 is, e.1)
+    let p = r.requires in
+    let is = r.sort_cells.ensures in
+    let e = r.rank_cells-made.ensures _ _ _ _ p.5 (sorted_cells p.4 p.1 is) in
+    (no_room _ _ _ e.0 _ c.cell_capacity.ensures c.if-cell_capacity-node.true, sorted_lists p.4 p.1 is, sorted_cells p.4 p.1 is, e.1)
 
-same-length-3 : tie.Need-same-length-3
+same-length-3 : tie.Need-shape_of-list
 same-length-3 c = search rules
 
-same-length-4 : tie.Need-same-length-4
+same-length-4 : tie.Need-shape_of-ranks
 same-length-4 c = search rules
 
-returns-2 : tie.Need-returns-2
+returns-2 : tie.Need-returns
 unfolding cell_capacity
 returns-2 c =
     let r = c.before.before.before.before.before in
-    let p = r.before.before.before.before.before.before.before.before.before.before.before.before.before.before.requires in
-    let is = r.before.before.before.before.before.sort-cells.ensures in
-    let e = r.rank-cells.ensures _ _ _ _ p.5 (sorted_cells p.4 p.1 is) in
-    (has_room _ _ _ e.0 _ c.before.before.cell-capacity.ensures c.if1.false, sorted_lists p.4 p.1 is, sorted_cells p.4 p.1 is, e.1)
+    let p = r.requires in
+    let is = r.sort_cells.ensures in
+    let e = r.rank_cells-made.ensures _ _ _ _ p.5 (sorted_cells p.4 p.1 is) in
+    (has_room _ _ _ e.0 _ c.cell_capacity.ensures c.if-cell_capacity-node.false, sorted_lists p.4 p.1 is, sorted_cells p.4 p.1 is, e.1)
 
 pub star_room_spec : {M : Type 1} → statement M
 star_room_spec =

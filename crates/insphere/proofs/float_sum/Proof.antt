@@ -17,7 +17,7 @@ product-requires-4 c κs = search rules
 
 returns : tie.Need-returns
 unfolding float_sum
-returns c = rw (c.before.before.before.product.ensures, c.before.before.product2.ensures, c.before.product3.ensures, c.product4.ensures)
+returns c = rw (c.product.ensures, c.product-2.ensures, c.product-3.ensures, c.product-4.ensures)
 
 pub float_sum_spec : {M : Type 1} → statement M
 float_sum_spec =

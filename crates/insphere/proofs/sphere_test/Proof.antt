@@ -7,27 +7,27 @@ use Rattle.insphere.proofs.Promises.{answer_near, accepted_in}
 use Rattle.insphere.proofs.sphere_test.Statement.{statement}
 use Rattle.insphere.proofs.sphere_test.Tie as tie
 
-sphere-refusal-requires : tie.Need-sphere-refusal-requires
+sphere-refusal-requires : tie.Need-sphere_refusal-refusal-requires
 sphere-refusal-requires c κs = search rules
 
-returns : tie.Need-returns
+returns : tie.Need-returns-then-refusal-ne0
 unfolding sphere_call
 returns c =
-    let e = c.before.sphere-refusal.ensures in
-    (rw (ne_eqb _ 0 (λ z. c.if1.true (e ∙ z))) (ap Refused e), tt)
+    let e = c.sphere_refusal-refusal.ensures in
+    (rw (ne_eqb _ 0 (λ z. c.if-refusal-ne0.true (e ∙ z))) (ap Refused e), tt)
 
-accepted : (c : tie.Else1) → let a = c.before.before.args in sphere_refusal a.a a.b a.c a.d a.p ≡ 0
-accepted c = sym c.before.sphere-refusal.ensures ∙ c.if1.false
+accepted : (c : tie.Else-refusal-ne0) → let a = c.args in sphere_refusal a.a a.b a.c a.d a.p ≡ 0
+accepted c = sym c.sphere_refusal-refusal.ensures ∙ c.if-refusal-ne0.false
 
-sphere-answer-requires : tie.Need-sphere-answer-requires
+sphere-answer-requires : tie.Need-sphere_answer-requires
 sphere-answer-requires c κs = accepted_in _ _ _ _ _ (accepted c)
 
-returns-2 : tie.Need-returns-2
+returns-2 : tie.Need-returns
 unfolding sphere_call
 returns-2 c =
     let ok = accepted c.before in
     let h = accepted_in _ _ _ _ _ ok in
-    let e = c.sphere-answer.ensures in
+    let e = c.sphere_answer.ensures in
     (rw (eq-eqb _ 0 ok) (ap Answered e), rw e (answer_near _ _ h.0 h.1))
 
 pub sphere_test_spec : {M : Type 1} → statement M

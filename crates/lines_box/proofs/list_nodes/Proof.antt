@@ -14,84 +14,84 @@ use Rattle.lines_box.proofs.list_nodes.Tie as tie
 abbrev zeros : List ℤ
 zeros = replicate 3072 (pos 0)
 
-slice-aggregate-start : tie.Need-slice-aggregate-start
+slice-aggregate-start : tie.Need-slice_bounds-start-end
 slice-aggregate-start c = search rules
 
-start-requires : tie.Need-start-requires
+start-requires : tie.Need-start-answer-requires
 start-requires c κs = search rules
 
-enum-known-answer : tie.Need-enum-known-answer
+enum-known-answer : tie.Need-enum_known-answer
 enum-known-answer c = search rules
 
-slice-aggregate-list-started : tie.Need-slice-aggregate-list-started
+slice-aggregate-list-started : tie.Need-slice_bounds-list_started-end
 slice-aggregate-list-started c = search rules
 
-list-started-requires : tie.Need-list-started-requires
+list-started-requires : tie.Need-list_started-requires
 list-started-requires c κs =
     let s = c.before.before.before.before.before.before.before.before.before.before.before.before.before.before.before.before.before.before.before.before.before.before.before.before.before.before.before.before.before.before in
     let a = s.args in
     let t = tables a.points.now a.corners.now a.neighbours.now in
-    let f = c.before.before.before.before.before.before.before.before.before.before.before.before.before.before.before.before.before.before.start in
+    let f = c.start-answer in
     let k = long_enough t zeros (omega (arith, length-replicate 3072 (pos 0))) in
     let S = start_without a.x a.y a.z t zeros a.work.now k f.ensures in
     let e = c.before.before.before.before.before.before.before.answer.given.1 in
     (from_start S e, s.requires, long_enough _ _ (omega (arith, f.auto.1.1.1.1.1.1.1.0, length-replicate 3072 (pos 0))), start_in_range a.x a.y a.z t zeros a.work.now k f.ensures e)
 
-enum-known-answer-2 : tie.Need-enum-known-answer-2
+enum-known-answer-2 : tie.Need-enum_known-answer-in-Refused-1
 enum-known-answer-2 c = search rules
 
-write-refused-requires : tie.Need-write-refused-requires
+write-refused-requires : tie.Need-write_refused-requires
 write-refused-requires c κs = search rules
 
-same_length : tie.Need-same-length
+same_length : tie.Need-shape_of-points-in-Accepted
 same_length c = search rules
 
-same-length-2 : tie.Need-same-length-2
+same-length-2 : tie.Need-shape_of-corners-in-Accepted
 same-length-2 c = search rules
 
-same-length-3 : tie.Need-same-length-3
+same-length-3 : tie.Need-shape_of-neighbours-in-Accepted
 same-length-3 c = search rules
 
-same-length-4 : tie.Need-same-length-4
+same-length-4 : tie.Need-shape_of-work-in-Accepted
 same-length-4 c = search rules
 
-same-length-5 : tie.Need-same-length-5
+same-length-5 : tie.Need-shape_of-out-in-Accepted
 same-length-5 c = search rules
 
-returns : tie.Need-returns
+returns : tie.Need-returns-in-Accepted
 returns c =
     let s = c.before.before.before.before.before.before.before.before.before.before.before.before.before.before.before.before.before.before.before.before.before.before.before.before.before.before.before.before.before.before.before.before.before.before.before.before.before.before.before.before.before.before in
     let a = s.args in
     let t = tables a.points.now a.corners.now a.neighbours.now in
-    let f = c.before.before.before.before.before.before.before.before.before.before.before.before.before.before.before.before.before.before.before.before.before.before.before.before.before.before.before.before.before.before.start in
+    let f = c.start-answer in
     let k = long_enough t zeros (omega (arith, length-replicate 3072 (pos 0))) in
     let S = start_without a.x a.y a.z t zeros a.work.now k f.ensures in
-    reads_as c.before.before.before.before.before.before.before.before.before.before.before.list-started.ensures (accepted_text S c.before.before.before.before.before.before.before.before.before.before.before.before.before.before.before.before.before.before.before.answer.given.1 a.nodes.now)
+    reads_as c.list_started.ensures (accepted_text S c.before.before.before.before.before.before.before.before.before.before.before.before.before.before.before.before.before.before.before.answer.given.1 a.nodes.now)
 
-same-length-6 : tie.Need-same-length-6
+same-length-6 : tie.Need-shape_of-points-in-Refused
 same-length-6 c = search rules
 
-same-length-7 : tie.Need-same-length-7
+same-length-7 : tie.Need-shape_of-corners-in-Refused
 same-length-7 c = search rules
 
-same-length-8 : tie.Need-same-length-8
+same-length-8 : tie.Need-shape_of-neighbours-in-Refused
 same-length-8 c = search rules
 
-same-length-9 : tie.Need-same-length-9
+same-length-9 : tie.Need-shape_of-work-in-Refused
 same-length-9 c = search rules
 
-same-length-10 : tie.Need-same-length-10
+same-length-10 : tie.Need-shape_of-out-in-Refused
 same-length-10 c = search rules
 
-returns-2 : tie.Need-returns-2
+returns-2 : tie.Need-returns-in-Refused
 returns-2 c =
     let s = c.before.before.before.before.before.before.before.before.before.before.before.before.before.before.before.before.before.before.before.before.before.before.before.before.before.before.before.before in
     let a = s.args in
     let t = tables a.points.now a.corners.now a.neighbours.now in
-    let f = c.before.before.before.before.before.before.before.before.before.before.before.before.before.before.before.before.start in
+    let f = c.start-answer in
     let k = long_enough t zeros (omega (arith, length-replicate 3072 (pos 0))) in
     let S = start_without a.x a.y a.z t zeros a.work.now k f.ensures in
-    reads_as c.before.before.write_refused.ensures (start_refused_text S a.nodes.now c.before.before.before.before.before.answer2.given.1)
+    reads_as c.write_refused.ensures (start_refused_text S a.nodes.now c.answer-in-Refused-1.given.1)
 
 pub list_nodes_spec : {M : Type 1} → statement M
 list_nodes_spec =

@@ -6,40 +6,40 @@ use borrow.Author.Rules.{rules}
 use Rattle.lines_box.proofs.list_started.Statement.{statement}
 use Rattle.lines_box.proofs.list_started.Tie as tie
 
-insert-list-requires : tie.Need-insert-list-requires
+insert-list-requires : tie.Need-insert_list-answer-requires
 insert-list-requires c κs = search rules
 
-write-listed-requires : tie.Need-write-listed-requires
+write-listed-requires : tie.Need-write_listed-requires
 write-listed-requires c κs =
     let s = c.before.before.before.before.before.before.before.before.before.before.before.before.before.before.before.before.before.before.before.before.before.before.before.before in
     let a = s.args in
-    let L = list_without a.mesh (tables a.points.now a.corners.now a.neighbours.now) a.corrections.now a.work.now a.nodes.now s.requires.2 s.requires.3 c.before.before.before.before.before.before.before.before.before.before.before.before.insert-list.ensures in
+    let L = list_without a.mesh (tables a.points.now a.corners.now a.neighbours.now) a.corrections.now a.work.now a.nodes.now s.requires.2 s.requires.3 c.insert_list-answer.ensures in
     let l = listed_entries s.requires.0 L in (l.0, l.1, s.requires.1)
 
-same_length : tie.Need-same-length
+same_length : tie.Need-shape_of-points
 same_length c = search rules
 
-same-length-2 : tie.Need-same-length-2
+same-length-2 : tie.Need-shape_of-corners
 same-length-2 c = search rules
 
-same-length-3 : tie.Need-same-length-3
+same-length-3 : tie.Need-shape_of-neighbours
 same-length-3 c = search rules
 
-same-length-4 : tie.Need-same-length-4
+same-length-4 : tie.Need-shape_of-work
 same-length-4 c = search rules
 
-same-length-5 : tie.Need-same-length-5
+same-length-5 : tie.Need-shape_of-corrections
 same-length-5 c = search rules
 
-same-length-6 : tie.Need-same-length-6
+same-length-6 : tie.Need-shape_of-out
 same-length-6 c = search rules
 
 returns : tie.Need-returns
 returns c =
     let s = c.before.before.before.before.before.before.before.before.before.before.before.before.before.before.before.before.before.before.before.before.before.before.before.before.before.before.before in
     let a = s.args in
-    let L = list_without a.mesh (tables a.points.now a.corners.now a.neighbours.now) a.corrections.now a.work.now a.nodes.now s.requires.2 s.requires.3 c.before.before.before.before.before.before.before.before.before.before.before.before.before.before.before.insert-list.ensures in
-    reads_as c.before.before.write-listed.ensures (listed_text s.requires.0 L)
+    let L = list_without a.mesh (tables a.points.now a.corners.now a.neighbours.now) a.corrections.now a.work.now a.nodes.now s.requires.2 s.requires.3 c.insert_list-answer.ensures in
+    reads_as c.write_listed.ensures (listed_text s.requires.0 L)
 
 pub list_started_spec : {M : Type 1} → statement M
 list_started_spec =

@@ -8,46 +8,46 @@ use Rattle.mesh.specs.Tables.{none, across}
 use Rattle.lines.specs.Listing.{neighbour_word, neighbour_words}
 use Rattle.lines.proofs.Putting.{Concatenating, none_written, next_fits, written_long, one_written, all_written}
 
-abbrev invariant-loop : tie.invariant-loop
+abbrev invariant-loop : tie.invariant-loop-i
 invariant-loop neighbours cell out₀ at first next₀ i₀ out next i = Concatenating (λ i. neighbour_word (get_or neighbours (4 * cell + i) none)) 4 out₀ at i next out
 
-abbrev decreases-loop : tie.decreases-loop
+abbrev decreases-loop : tie.decreases-loop-i
 decreases-loop neighbours cell out₀ at first next₀ i₀ out next i = 4 - i
 
-mul-first : tie.Need-overflow-mul-first invariant-loop decreases-loop
-mul-first c = omega (arith, c.before.before.requires.0.few)
+mul-first : tie.Need-overflow_mul-first invariant-loop decreases-loop
+mul-first c = omega (arith, c.requires.0.few)
 
-loop-holds : tie.Need-loop-init invariant-loop decreases-loop
+loop-holds : tie.Need-loop-i-init invariant-loop decreases-loop
 unfolding neighbour_words across
-loop-holds c = none_written _ 4 _ _ c.before.before.requires.1
+loop-holds c = none_written _ 4 _ _ c.requires.1
 
-add-write-neighbour : tie.Need-overflow-add-write-neighbour invariant-loop decreases-loop
-add-write-neighbour c = omega (arith, c.before.before.before.before.requires.0.few)
+add-write-neighbour : tie.Need-overflow_add-first invariant-loop decreases-loop
+add-write-neighbour c = omega (arith, c.requires.0.few)
 
-mul-write-neighbour : tie.Need-overflow-mul-write-neighbour invariant-loop decreases-loop
-mul-write-neighbour c = omega (arith, c.before.before.before.before.requires.0.few)
+mul-write-neighbour : tie.Need-offset_bounds-neighbours-first invariant-loop decreases-loop
+mul-write-neighbour c = omega (arith, c.requires.0.few)
 
-shared-slice-read-write-neighbour : tie.Need-shared-slice-read-write-neighbour invariant-loop decreases-loop
-shared-slice-read-write-neighbour c = omega (arith, c.before.before.before.before.before.requires.0.fits)
+shared-slice-read-write-neighbour : tie.Need-bounds-neighbours-first invariant-loop decreases-loop
+shared-slice-read-write-neighbour c = omega (arith, c.requires.0.fits)
 
-write-neighbour-requires : tie.Need-write-neighbour-requires invariant-loop decreases-loop
-write-neighbour-requires c κs = rw (any_default c.before.before.before.before.before.before.args.neighbours.now (4 * c.before.before.before.before.before.before.args.cell + c.before.before.before.loop.i) 0 none (omega (arith, c.before.before.before.before.before.before.requires.0.fits))) (next_fits c.before.before.before.loop.invariant (omega arith))
+write-neighbour-requires : tie.Need-write_neighbour-next-requires invariant-loop decreases-loop
+write-neighbour-requires c κs = rw (any_default c.args.neighbours.now (4 * c.args.cell + c.loop-i.i) 0 none (omega (arith, c.requires.0.fits))) (next_fits c.loop-i.invariant (omega arith))
 
-add-i : tie.Need-overflow-add-i invariant-loop decreases-loop
+add-i : tie.Need-overflow_add-i invariant-loop decreases-loop
 add-i c = omega arith
 
-loop-less : tie.Need-loop-smaller invariant-loop decreases-loop
+loop-less : tie.Need-loop-i-smaller invariant-loop decreases-loop
 loop-less c = omega arith
 
-loop-again : tie.Need-loop-preserved invariant-loop decreases-loop
-loop-again c = one_written c.before.before.before.before.before.before.loop.invariant (omega arith) (rw (any_default c.before.before.before.before.before.before.before.before.before.args.neighbours.now (4 * c.before.before.before.before.before.before.before.before.before.args.cell + c.before.before.before.before.before.before.loop.i) 0 none (omega (arith, c.before.before.before.before.before.before.before.before.before.requires.0.fits))) at c.before.before.write-neighbour.ensures)
+loop-again : tie.Need-loop-i-preserved invariant-loop decreases-loop
+loop-again c = one_written c.loop-i.invariant (omega arith) (rw (any_default c.args.neighbours.now (4 * c.args.cell + c.loop-i.i) 0 none (omega (arith, c.requires.0.fits))) at c.write_neighbour-next.ensures)
 
-same_length : tie.Need-same-length invariant-loop decreases-loop
-same_length c = written_long c.before.loop.invariant
+same_length : tie.Need-shape_of-out invariant-loop decreases-loop
+same_length c = written_long c.loop-i.invariant
 
 returns : tie.Need-returns invariant-loop decreases-loop
 unfolding neighbour_words across
-returns c = all_written c.before.loop.invariant (omega arith)
+returns c = all_written c.loop-i.invariant (omega arith)
 
 pub write_neighbours_spec : {M : Type 1} → statement M
 write_neighbours_spec =

@@ -8,39 +8,39 @@ use borrow.Author.Rules.{rules}
 use Rattle.lines_file.proofs.list_input.Statement.{statement}
 use Rattle.lines_file.proofs.list_input.Tie as tie
 
-write-refused-requires : tie.Need-write-refused-requires
+write-refused-requires : tie.Need-write_refused-requires
 write-refused-requires c κs = search rules
 
-same_length : tie.Need-same-length
-same_length c = c.before.before.write_refused.auto.1.0
+same_length : tie.Need-shape_of-out-then-file-gt65536
+same_length c = c.write_refused.auto.1.0
 
-returns : tie.Need-returns
-returns c = reads_as c.before.before.write_refused.ensures (over_limit _ c.before.before.before.before.if1.true)
+returns : tie.Need-returns-then-file-gt65536
+returns c = reads_as c.write_refused.ensures (over_limit _ c.if-file-gt65536.true)
 
-slice-aggregate-list-file : tie.Need-slice-aggregate-list-file
+slice-aggregate-list-file : tie.Need-slice_bounds-list_file-end
 slice-aggregate-list-file c = sym (length-replicate {A = ℕ} 3072 0)
 
-slice-aggregate-list-file-2 : tie.Need-slice-aggregate-list-file-2
+slice-aggregate-list-file-2 : tie.Need-slice_bounds-list_file-end-2
 slice-aggregate-list-file-2 c = sym (length-replicate {A = ℕ} 16384 0)
 
-slice-aggregate-list-file-3 : tie.Need-slice-aggregate-list-file-3
+slice-aggregate-list-file-3 : tie.Need-slice_bounds-list_file-end-3
 slice-aggregate-list-file-3 c = sym (length-replicate {A = ℕ} 16384 0)
 
-slice-aggregate-list-file-4 : tie.Need-slice-aggregate-list-file-4
+slice-aggregate-list-file-4 : tie.Need-slice_bounds-list_file-end-4
 slice-aggregate-list-file-4 c = sym (length-replicate {A = ℕ} 12288 0)
 
-slice-aggregate-list-file-5 : tie.Need-slice-aggregate-list-file-5
+slice-aggregate-list-file-5 : tie.Need-slice_bounds-list_file-end-5
 slice-aggregate-list-file-5 c = sym (length-replicate {A = ℕ} 3048 0)
 
-list-file-requires : tie.Need-list-file-requires
-list-file-requires c κs = c.before.before.before.before.before.before.before.before.before.requires
+list-file-requires : tie.Need-list_file-requires
+list-file-requires c κs = c.requires
 
-same-length-2 : tie.Need-same-length-2
-same-length-2 c = c.before.before.before.before.before.before.before.list-file.auto.1.1.1.1.1.1.0
+same-length-2 : tie.Need-shape_of-out
+same-length-2 c = c.list_file.auto.1.1.1.1.1.1.0
 
-returns-2 : tie.Need-returns-2
+returns-2 : tie.Need-returns
 unfolding room
-returns-2 c = reads_as c.before.before.before.before.before.before.before.list-file.ensures (within_limit _ c.before.before.before.before.before.before.before.before.before.before.before.before.before.before.if1.false refl (length-replicate {A = ℕ} 3048 0) (length-replicate {A = ℕ} 12288 0))
+returns-2 c = reads_as c.list_file.ensures (within_limit _ c.if-file-gt65536.false refl (length-replicate {A = ℕ} 3048 0) (length-replicate {A = ℕ} 12288 0))
 
 pub list_input_spec : {M : Type 1} → statement M
 list_input_spec =

@@ -23,10 +23,10 @@ table =
     (below_five (λ k. get_or {A = ℕ} (1 ∷ 10 ∷ 100 ∷ 1000 ∷ 10000 ∷ 100000 ∷ 1000000 ∷ 10000000 ∷ 100000000 ∷ 1000000000 ∷ []) (5 + k) 0 ≡ 10 ^ (5 + k))
     refl refl refl refl refl)
 
-mul-result : tie.Need-overflow-mul-result
+mul-result : tie.Need-offset_bounds-p
 mul-result c = search rules
 
-array-read-result : tie.Need-array-read-result
+array-read-result : tie.Need-bounds-p
 array-read-result c = search rules
 
 returns : tie.Need-returns

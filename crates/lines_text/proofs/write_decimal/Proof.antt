@@ -5,37 +5,37 @@ use native.Mathlib.Omega.{arith}
 use Rattle.lines.specs.Text.{digit, decimal}
 use Rattle.lines.proofs.Putting.{Concatenating, none_written, next_fits, written_long, one_written, all_written}
 
-abbrev invariant-loop : tie.invariant-loop
+abbrev invariant-loop : tie.invariant-loop-i
 invariant-loop number out₀ at next₀ i₀ out next i = Concatenating (λ i. digit number (9 - i)) 10 out₀ at i next out
 
-abbrev decreases-loop : tie.decreases-loop
+abbrev decreases-loop : tie.decreases-loop-i
 decreases-loop number out₀ at next₀ i₀ out next i = 10 - i
 
-loop-holds : tie.Need-loop-init invariant-loop decreases-loop
+loop-holds : tie.Need-loop-i-init invariant-loop decreases-loop
 unfolding decimal
-loop-holds c = none_written _ 10 _ _ c.before.requires
+loop-holds c = none_written _ 10 _ _ c.requires
 
-sub-write-digit : tie.Need-overflow-sub-write-digit invariant-loop decreases-loop
+sub-write-digit : tie.Need-overflow_sub-i invariant-loop decreases-loop
 sub-write-digit c = omega arith
 
-write-digit-requires : tie.Need-write-digit-requires invariant-loop decreases-loop
-write-digit-requires c κs = (omega arith, next_fits c.before.before.loop.invariant (omega arith))
+write-digit-requires : tie.Need-write_digit-next-requires invariant-loop decreases-loop
+write-digit-requires c κs = (omega arith, next_fits c.loop-i.invariant (omega arith))
 
-add-i : tie.Need-overflow-add-i invariant-loop decreases-loop
+add-i : tie.Need-overflow_add-i invariant-loop decreases-loop
 add-i c = omega arith
 
-loop-less : tie.Need-loop-smaller invariant-loop decreases-loop
+loop-less : tie.Need-loop-i-smaller invariant-loop decreases-loop
 loop-less c = omega arith
 
-loop-again : tie.Need-loop-preserved invariant-loop decreases-loop
-loop-again c = one_written c.before.before.before.before.before.loop.invariant (omega arith) c.before.before.write-digit.ensures
+loop-again : tie.Need-loop-i-preserved invariant-loop decreases-loop
+loop-again c = one_written c.loop-i.invariant (omega arith) c.write_digit-next.ensures
 
-same_length : tie.Need-same-length invariant-loop decreases-loop
-same_length c = written_long c.before.loop.invariant
+same_length : tie.Need-shape_of-out invariant-loop decreases-loop
+same_length c = written_long c.loop-i.invariant
 
 returns : tie.Need-returns invariant-loop decreases-loop
 unfolding decimal
-returns c = all_written c.before.loop.invariant (omega arith)
+returns c = all_written c.loop-i.invariant (omega arith)
 
 pub write_decimal_spec : {M : Type 1} → statement M
 write_decimal_spec =

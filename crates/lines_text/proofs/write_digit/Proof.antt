@@ -1,3 +1,4 @@
+use Rattle.std.proofs.lemmas.Bool.{not_from_false, not_from_true}
 use borrow.Author.Rules.{rules}
 use Rattle.lines_text.proofs.write_digit.Statement.{statement}
 use Rattle.lines_text.proofs.write_digit.Tie as tie
@@ -7,32 +8,32 @@ use Rattle.lines.proofs.Putting.{digit_shown, digit_hidden, power_above, digit_f
 power-requires : tie.Need-power-requires
 power-requires c κs = search rules
 
-div-high : tie.Need-nonzero-div-high
+div-high : tie.Need-nonzero_div-high
 div-high c = power_above _ c.power.ensures
 
 counts-requires : tie.Need-counts-requires
 counts-requires c κs = search rules
 
-returns : tie.Need-returns
-returns c = digit_hidden _ _ _ c.before.before.power.ensures c.before.counts.ensures _ _ (not-true _ c.if1.true) c.before.before.before.before.requires.1
+returns : tie.Need-returns-then-not-counts
+returns c = digit_hidden _ _ _ c.power.ensures c.counts.ensures _ _ (not-true _ (not_from_false _ c.if-not-counts.true)) c.requires.1
 
-cast-out : tie.Need-overflow-cast-out
+cast-out : tie.Need-overflow_cast-out
 cast-out c = search rules
 
-add-out : tie.Need-overflow-add-out
+add-out : tie.Need-overflow_add-out
 add-out c = search rules
 
-slice-write-out : tie.Need-slice-write-out
-slice-write-out c = digit_fits _ _ _ c.before.before.power.ensures c.before.counts.ensures c.before.before.before.before.args.out.now _ (not-false _ c.if1.false) c.before.before.before.before.requires.1
+slice-write-out : tie.Need-bounds-out-at
+slice-write-out c = digit_fits _ _ _ c.power.ensures c.counts.ensures c.args.out.now _ (not-false _ (not_from_true _ c.if-not-counts.false)) c.requires.1
 
-add-result : tie.Need-overflow-add-result
+add-result : tie.Need-overflow_add-result
 add-result c = search rules
 
-same_length : tie.Need-same-length
+same_length : tie.Need-shape_of-out
 same_length c = search rules
 
-returns-2 : tie.Need-returns-2
-returns-2 c = digit_shown _ _ _ c.before.before.power.ensures c.before.counts.ensures _ _ (not-false _ c.if1.false) c.before.before.before.before.requires.1
+returns-2 : tie.Need-returns
+returns-2 c = digit_shown _ _ _ c.power.ensures c.counts.ensures _ _ (not-false _ (not_from_true _ c.if-not-counts.false)) c.requires.1
 
 pub write_digit_spec : {M : Type 1} → statement M
 write_digit_spec =

@@ -5,17 +5,17 @@ use native.Mathlib.Omega.{arith}
 use lib.ListN.{length-append}
 use borrow.Author.Rules.{rules}
 
-write-bytes-requires : tie.Need-write-bytes-requires
-write-bytes-requires c κs = omega (arith, simp length-append at c.before.before.before.requires)
+write-bytes-requires : tie.Need-write_bytes-next-requires
+write-bytes-requires c κs = omega (arith, simp length-append at c.requires)
 
-write-decimal-requires : tie.Need-write-decimal-requires
-write-decimal-requires c κs = omega (arith, simp length-append at c.before.before.before.before.before.before.before.requires, c.before.before.before.write_bytes.ensures.next_is)
+write-decimal-requires : tie.Need-write_decimal-requires
+write-decimal-requires c κs = omega (arith, simp length-append at c.requires, c.write_bytes-next.ensures.next_is)
 
-same_length : tie.Need-same-length
+same_length : tie.Need-shape_of-out
 same_length c = search rules
 
 returns : tie.Need-returns
-returns c = then c.before.before.before.before.before.before.write_bytes.ensures c.before.before.write-decimal.ensures
+returns c = then c.write_bytes-next.ensures c.write_decimal.ensures
 
 pub write_number_spec : {M : Type 1} → statement M
 write_number_spec =

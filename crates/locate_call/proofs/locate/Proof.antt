@@ -1,3 +1,4 @@
+use Rattle.std.proofs.lemmas.Bool.{not_from_false, not_from_true}
 use native.Mathlib.Omega.{arith}
 use mathlib.Core.Bool.{true, false}
 use lib.ListN.{length}
@@ -14,87 +15,87 @@ use Rattle.locate.proofs.Finding.{refused, outside, unheld, found}
 use Rattle.locate_call.proofs.locate.Statement.{statement}
 use Rattle.locate_call.proofs.locate.Tie as tie
 
-abbrev start : tie.After-mesh-refusal → tie.Start
+abbrev start : tie.After-mesh_refusal-refusal → tie.Start
 start c = c.before.before.before.before.before.before.before.before.before
 
-abbrev lent : tie.After-mesh-refusal → Tables
+abbrev lent : tie.After-mesh_refusal-refusal → Tables
 lent c = let a = (start c).args in tables a.points.now a.corners.now a.neighbours.now
 
-refusal : (c : tie.After-mesh-refusal) → let a = (start c).args in
-    c.mesh-refusal.result ≡ mesh_refusal a.mesh (lent c) (length a.work.now) false
-refusal c = c.mesh-refusal.ensures ∙ ap (λ w. mesh_refusal (start c).args.mesh (lent c) w false) c.before.before.before.clear.auto.0
+refusal : (c : tie.After-mesh_refusal-refusal) → let a = (start c).args in
+    c.mesh_refusal-refusal.result ≡ mesh_refusal a.mesh (lent c) (length a.work.now) false
+refusal c = c.mesh_refusal-refusal.ensures ∙ ap (λ w. mesh_refusal (start c).args.mesh (lent c) w false) c.clear.auto.0
 
-none : (c : tie.Else1) → let a = (start c.before).args in mesh_refusal a.mesh (lent c.before) (length a.work.now) false ≡ 0
-none c = sym (refusal c.before) ∙ c.if1.false
+none : (c : tie.Else-refusal-ne0) → let a = (start c.before).args in mesh_refusal a.mesh (lent c.before) (length a.work.now) false ≡ 0
+none c = sym (refusal c.before) ∙ c.if-refusal-ne0.false
 
-inside : (c : tie.Else2) → let a = (start c.before.before.before).args in in_box a.mesh.x a.mesh.y a.mesh.z a.q ≡ true
-inside c = test_passed c.before.in_box_lem.ensures c.if2.false
+inside : (c : tie.Else-not-in_box) → let a = (start c.before.before.before).args in in_box a.mesh.x a.mesh.y a.mesh.z a.q ≡ true
+inside c = test_passed c.in_box.ensures (not_from_true _ c.if-not-in_box.false)
 
 -- what is found
-first : (c : tie.After-first-holder) →
+first : (c : tie.After-first_holder-c) →
     let r = c.before.before.before.before.before.before in
     let a = (start r).args in
-    c.first-holder.result ≡ first_holder (lent r) a.mesh.used a.q
+    c.first_holder-c.result ≡ first_holder (lent r) a.mesh.used a.q
 unfolding first_holder earlier_holder holds sorted_corners live freed side corner_at corner
-first c = c.first-holder.ensures
+first c = c.first_holder-c.ensures
 
 clear-requires : tie.Need-clear-requires
 clear-requires c κs = search rules
 
-mesh-refusal-requires : tie.Need-mesh-refusal-requires
+mesh-refusal-requires : tie.Need-mesh_refusal-refusal-requires
 mesh-refusal-requires c κs = search rules
 
-same_length : tie.Need-same-length
+same_length : tie.Need-shape_of-work-then-refusal-ne0
 same_length c = search rules
 
-returns : tie.Need-returns
+returns : tie.Need-returns-then-refusal-ne0
 returns c =
     let r = c.before in
-    (refused _ _ _ _ (refusal r) c.if1.true, r.before.before.before.clear.ensures)
+    (refused _ _ _ _ (refusal r) c.if-refusal-ne0.true, r.clear.ensures)
 
-in-box-requires : tie.Need-in-box-requires
+in-box-requires : tie.Need-in_box-requires
 in-box-requires c κs = search rules
 
-same-length-2 : tie.Need-same-length-2
+same-length-2 : tie.Need-shape_of-work-then-not-in_box
 same-length-2 c = search rules
 
-returns-2 : tie.Need-returns-2
+returns-2 : tie.Need-returns-then-not-in_box
 returns-2 c =
     let r = c.before.before.before in
-    (outside _ _ _ _ (none c.before.before) (test_failed c.before.in_box_lem.ensures c.if2.true), r.before.before.before.clear.ensures)
+    (outside _ _ _ _ (none c.before.before) (test_failed c.in_box.ensures (not_from_false _ c.if-not-in_box.true)), r.clear.ensures)
 
-cast-n : tie.Need-overflow-cast-n
+cast-n : tie.Need-overflow_cast-n
 cast-n c = search rules
 
-cast-first-holder : tie.Need-overflow-cast-first-holder
+cast-first-holder : tie.Need-overflow_cast-mesh
 cast-first-holder c = search rules
 
-first-holder-requires : tie.Need-first-holder-requires
+first-holder-requires : tie.Need-first_holder-c-requires
 first-holder-requires c κs =
     let p = passed _ _ _ false (none c.before.before.before.before) in
     (solid _ _ _ _ _ p, in_range_lem _ _ _ p (inside c.before.before))
 
-same-length-3 : tie.Need-same-length-3
+same-length-3 : tie.Need-shape_of-work-then-c-n
 same-length-3 c = search rules
 
-returns-3 : tie.Need-returns-3
+returns-3 : tie.Need-returns-then-c-n
 returns-3 c =
     let r = c.before.before.before.before.before.before.before in
-    (unheld _ _ _ _ (none c.before.before.before.before.before.before) (inside c.before.before.before.before) (first c.before) c.if3.true, r.before.before.before.clear.ensures)
+    (unheld _ _ _ _ (none c.before.before.before.before.before.before) (inside c.before.before.before.before) (first c.before) c.if-c-n.true, r.clear.ensures)
 
-cast-t16 : tie.Need-overflow-cast-t16
+cast-t16 : tie.Need-overflow_cast-result
 cast-t16 c =
     let r = c.before.before.before.before.before.before.before in
     let few = (solid _ _ _ _ _ (passed _ _ _ false (none c.before.before.before.before.before.before))).celled.cells_few in
     record { fits = omega (arith, first c.before, holder≤ (lent r) (start r).args.q (start r).args.mesh.used, few) }
 
-same-length-4 : tie.Need-same-length-4
+same-length-4 : tie.Need-shape_of-work
 same-length-4 c = search rules
 
-returns-4 : tie.Need-returns-4
+returns-4 : tie.Need-returns
 returns-4 c =
     let r = c.before.before.before.before.before.before.before in
-    (found _ _ _ _ (none c.before.before.before.before.before.before) (inside c.before.before.before.before) (first c.before) c.if3.false, r.before.before.before.clear.ensures)
+    (found _ _ _ _ (none c.before.before.before.before.before.before) (inside c.before.before.before.before) (first c.before) c.if-c-n.false, r.clear.ensures)
 
 pub locate_spec : {M : Type 1} → statement M
 locate_spec =

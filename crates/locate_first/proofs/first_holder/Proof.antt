@@ -14,81 +14,81 @@ use Rattle.locate.proofs.First.{CandidateAfter, candidate_none, candidate_more, 
 use Rattle.locate_first.proofs.first_holder.Statement.{statement}
 use Rattle.locate_first.proofs.first_holder.Tie as tie
 
-abbrev invariant-loop : tie.invariant-loop
+abbrev invariant-loop : tie.invariant-loop-c
 invariant-loop points corners np n q codes first₀ c₀ first c = (c ≤ n) × CandidateAfter (tables points corners []) q n c first
 
-abbrev decreases-loop : tie.decreases-loop
+abbrev decreases-loop : tie.decreases-loop-c
 decreases-loop points corners np n q codes first₀ c₀ first c = n - c
 
-abbrev start : tie.After-four-at invariant-loop decreases-loop → tie.Start invariant-loop decreases-loop
+abbrev start : tie.After-four_at-k invariant-loop decreases-loop → tie.Start invariant-loop decreases-loop
 start c = c.before.before.before.before.before.before
 
-first_corner : (c : tie.After-may-hold invariant-loop decreases-loop) → c.may-hold.result ≡ true → get_or c.before.before.four-at.result 0 0 ≢ none
+first_corner : (c : tie.After-may_hold invariant-loop decreases-loop) → c.may_hold.result ≡ true → get_or c.four_at-k.result 0 0 ≢ none
 first_corner c e =
     let f = c.before.before in
-    may_hold_first _ _ _ _ (start f).requires.0 _ (omega arith) f.four-at.ensures _ (sym c.may-hold.ensures ∙ e)
+    may_hold_first _ _ _ _ (start f).requires.0 _ (omega arith) f.four_at-k.ensures _ (sym c.may_hold.ensures ∙ e)
 
 -- the loop's entry is a cell
-entry : (c : tie.After-may-hold invariant-loop decreases-loop) → let f = c.before.before in let a = (start f).args in
-    c.may-hold.result ≡ true → IsCell (tables a.points.now a.corners.now []) a.n f.before.before.loop.c
+entry : (c : tie.After-may_hold invariant-loop decreases-loop) → let f = c.before.before in let a = (start f).args in
+    c.may_hold.result ≡ true → IsCell (tables a.points.now a.corners.now []) a.n f.loop-c.c
 entry c e =
     let f = c.before.before in
-    cell_at _ _ _ _ (start f).requires.0 _ (omega arith) f.four-at.ensures _ [] (first_corner c e)
+    cell_at _ _ _ _ (start f).requires.0 _ (omega arith) f.four_at-k.ensures _ [] (first_corner c e)
 
-is_held : (c : tie.After-may-hold invariant-loop decreases-loop) → let f = c.before.before in let a = (start f).args in
-    c.may-hold.result ≡ true → holds_four a.points.now f.four-at.result a.q ≡ holds (tables a.points.now a.corners.now []) a.q f.before.before.loop.c
-is_held c e = let f = c.before.before in let a = (start f).args in holds_is a.points.now a.corners.now [] _ a.q (entry c e).lives f.four-at.ensures
+is_held : (c : tie.After-may_hold invariant-loop decreases-loop) → let f = c.before.before in let a = (start f).args in
+    c.may_hold.result ≡ true → holds_four a.points.now f.four_at-k.result a.q ≡ holds (tables a.points.now a.corners.now []) a.q f.loop-c.c
+is_held c e = let f = c.before.before in let a = (start f).args in holds_is a.points.now a.corners.now [] _ a.q (entry c e).lives f.four_at-k.ensures
 
-lengthy : (c : tie.After-four-at invariant-loop decreases-loop) → length c.before.before.before.side-codes.result ≡ 1024
-lengthy c = ap length c.before.before.before.side-codes.ensures ∙ side_codes_length _ _ _
+lengthy : (c : tie.After-four_at-k invariant-loop decreases-loop) → length c.side_codes-codes.result ≡ 1024
+lengthy c = ap length c.side_codes-codes.ensures ∙ side_codes_length _ _ _
 
-side-codes-requires : tie.Need-side-codes-requires invariant-loop decreases-loop
-side-codes-requires c κs = let p = c.before.before.requires.0.placed in (p.points_few, p.points_fit)
+side-codes-requires : tie.Need-side_codes-codes-requires invariant-loop decreases-loop
+side-codes-requires c κs = let p = c.requires.0.placed in (p.points_few, p.points_fit)
 
-loop-holds : tie.Need-loop-init invariant-loop decreases-loop
+loop-holds : tie.Need-loop-c-init invariant-loop decreases-loop
 loop-holds c = (omega arith, candidate_none _ _ _)
 
-four-at-requires : tie.Need-four-at-requires invariant-loop decreases-loop
+four-at-requires : tie.Need-four_at-k-requires invariant-loop decreases-loop
 four-at-requires c κs = search rules
 
-slice-aggregate-may-hold : tie.Need-slice-aggregate-may-hold invariant-loop decreases-loop
+slice-aggregate-may-hold : tie.Need-slice_bounds-may_hold-end invariant-loop decreases-loop
 slice-aggregate-may-hold c = sym (lengthy c.before)
 
-may-hold-requires : tie.Need-may-hold-requires invariant-loop decreases-loop
-may-hold-requires c κs = let f = c.before in codes_there _ _ _ _ (start f).requires.0 _ (omega arith) f.four-at.ensures f.before.before.before.side-codes.result (lengthy f)
+may-hold-requires : tie.Need-may_hold-requires invariant-loop decreases-loop
+may-hold-requires c κs = let f = c.before in codes_there _ _ _ _ (start f).requires.0 _ (omega arith) f.four_at-k.ensures f.side_codes-codes.result (lengthy f)
 
-cell-holds-requires : tie.Need-cell-holds-requires invariant-loop decreases-loop
+cell-holds-requires : tie.Need-cell_holds-requires invariant-loop decreases-loop
 cell-holds-requires c κs =
     let f = c.before.before.before in
-    (cornered_at _ _ _ _ (start f).requires.0 _ (omega arith) f.four-at.ensures (first_corner c.before c.if1.true), (start f).requires.1)
+    (cornered_at _ _ _ _ (start f).requires.0 _ (omega arith) f.four_at-k.ensures (first_corner c.before c.if-may_hold.true), (start f).requires.1)
 
-earlier-requires : tie.Need-earlier-requires invariant-loop decreases-loop
+earlier-requires : tie.Need-earlier-first-requires invariant-loop decreases-loop
 earlier-requires c κs = search rules
 
-add-c : tie.Need-overflow-add-c invariant-loop decreases-loop
+add-c : tie.Need-overflow_add-c invariant-loop decreases-loop
 add-c c = omega arith
 
-loop-less : tie.Need-loop-smaller invariant-loop decreases-loop
+loop-less : tie.Need-loop-c-smaller invariant-loop decreases-loop
 loop-less c = omega arith
 
-loop-again : tie.Need-loop-preserved invariant-loop decreases-loop
+loop-again : tie.Need-loop-c-preserved invariant-loop decreases-loop
 loop-again c =
     let f = c.before.before.before in
     let p = (start f).requires in
-    let l = f.before.before.loop in (
+    let l = f.loop-c in (
       omega arith,
       ⊎_elim
           (λ w. subst (CandidateAfter _ _ _ _) (sym (w.4 ∙ w.3.ensures))
-          (candidate_earlier _ _ _ _ p.0 _ (omega arith) f.four-at.ensures _ l.invariant.1 (sym (w.1.ensures ∙ is_held c.before w.0.taken) ∙ w.2.taken)))
+          (candidate_earlier _ _ _ _ p.0 _ (omega arith) f.four_at-k.ensures _ l.invariant.1 (sym (w.1.ensures ∙ is_held c.before w.0.taken) ∙ w.2.taken)))
           (⊎_elim
           (λ w. subst (CandidateAfter _ _ _ _) (sym w.3) (candidate_more _ _ _ _ l.invariant.1 (sym (w.1.ensures ∙ is_held c.before w.0.taken) ∙ w.2.left)))
           (λ w. subst (CandidateAfter _ _ _ _) (sym w.1) (candidate_more _ _ _ _ l.invariant.1
-          (may_not_hold _ _ _ _ p.0 _ (omega arith) f.four-at.ensures _ _ f.before.before.before.side-codes.ensures [] (sym c.before.may-hold.ensures ∙ w.0.left)))))
-          c.if1.branch,
+          (may_not_hold _ _ _ _ p.0 _ (omega arith) f.four_at-k.ensures _ _ f.side_codes-codes.ensures [] (sym c.may_hold.ensures ∙ w.0.left)))))
+          c.if-may_hold.branch,
     )
 
 returns : tie.Need-returns invariant-loop decreases-loop
-returns c = candidate_is _ _ _ c.before.loop.invariant.1 (omega arith)
+returns c = candidate_is _ _ _ c.loop-c.invariant.1 (omega arith)
 
 pub first_holder_spec : {M : Type 1} → statement M
 first_holder_spec =

@@ -7,19 +7,19 @@ use Rattle.locate.specs.Inner.{may_hold}
 use Rattle.locate_holding.proofs.may_hold.Statement.{statement}
 use Rattle.locate_holding.proofs.may_hold.Tie as tie
 
-array-read-if1 : tie.Need-array-read-if1
+array-read-if1 : tie.Need-bounds-k-0
 array-read-if1 c = search rules
 
-returns : tie.Need-returns
+returns : tie.Need-returns-then-k
 unfolding may_hold
-returns c = rw (eq-eqb _ none c.if1.true)
+returns c = rw (eq-eqb _ none c.if-k.true)
 
-shared-bits-requires : tie.Need-shared-bits-requires
-shared-bits-requires c κs = c.before.before.requires c.if1.false
+shared-bits-requires : tie.Need-shared_bits-requires
+shared-bits-requires c κs = c.requires c.if-k.false
 
-returns-2 : tie.Need-returns-2
+returns-2 : tie.Need-returns
 unfolding may_hold
-returns-2 c = rw (ne_eqb _ none c.before.if1.false) (ap (λ b. eqb b 0) c.shared-bits.ensures)
+returns-2 c = rw (ne_eqb _ none c.if-k.false) (ap (λ b. eqb b 0) c.shared_bits.ensures)
 
 pub may_hold_spec : {M : Type 1} → statement M
 may_hold_spec = tie.close (tie.spec array-read-if1 returns shared-bits-requires returns-2)

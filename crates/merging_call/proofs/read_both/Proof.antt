@@ -6,36 +6,36 @@ use borrow.Author.Rules.{rules}
 use Rattle.merging_call.proofs.read_both.Statement.{statement}
 use Rattle.merging_call.proofs.read_both.Tie as tie
 
-read-nodes-requires : tie.Need-read-nodes-requires
+read-nodes-requires : tie.Need-read_nodes-answer-requires
 read-nodes-requires c κs = search rules
 
-enum-known-answer : tie.Need-enum-known-answer
+enum-known-answer : tie.Need-enum_known-answer
 enum-known-answer c = search rules
 
-read-second-requires : tie.Need-read-second-requires
+read-second-requires : tie.Need-read_second-requires
 read-second-requires c κs =
     let s = c.before.before.before.before.before.before.before.before.before.before.before in
-    let q = accepted_read s.args.first.now _ (omega (arith, s.requires)) (read_as c.before.before.before.before.before.before.read-nodes.ensures c.before.before.answer.given.1) in
-    (omega (arith, q.few, ap (λ (h : Header). h.count) q.head), omega (arith, s.requires, c.before.before.before.before.before.before.read-nodes.auto.1.0))
+    let q = accepted_read s.args.first.now _ (omega (arith, s.requires)) (read_as c.read_nodes-answer.ensures c.before.before.answer.given.1) in
+    (omega (arith, q.few, ap (λ (h : Header). h.count) q.head), omega (arith, s.requires, c.read_nodes-answer.auto.1.0))
 
-enum-known-answer-2 : tie.Need-enum-known-answer-2
+enum-known-answer-2 : tie.Need-enum_known-answer-in-Refused-1
 enum-known-answer-2 c = search rules
 
-same_length : tie.Need-same-length
+same_length : tie.Need-shape_of-nodes-in-Nodes
 same_length c = search rules
 
-returns : tie.Need-returns
+returns : tie.Need-returns-in-Nodes
 returns c =
     let s = c.before.before.before.before.before.before.before.before.before.before.before.before.before.before in
-    both_read s.args.first.now s.args.second.now s.requires (read_as c.before.before.before.before.before.before.before.before.before.read-nodes.ensures c.before.before.before.before.before.answer.given.1) c.before.before.read-second.result _ c.before.before.read-second.ensures
+    both_read s.args.first.now s.args.second.now s.requires (read_as c.read_nodes-answer.ensures c.before.before.before.before.before.answer.given.1) c.read_second.result _ c.read_second.ensures
 
-same-length-2 : tie.Need-same-length-2
+same-length-2 : tie.Need-shape_of-nodes-in-Refused
 same-length-2 c = search rules
 
-returns-2 : tie.Need-returns-2
+returns-2 : tie.Need-returns-in-Refused
 returns-2 c =
     let s = c.before.before.before.before.before.before.before.before.before.before in
-    first_refused s.args.first.now s.args.second.now s.requires s.args.nodes.now (read_as c.before.before.before.before.before.read-nodes.ensures c.before.answer2.given.1)
+    first_refused s.args.first.now s.args.second.now s.requires s.args.nodes.now (read_as c.read_nodes-answer.ensures c.answer-in-Refused-1.given.1)
 
 pub read_both_spec : {M : Type 1} → statement M
 read_both_spec =

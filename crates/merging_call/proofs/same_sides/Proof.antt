@@ -3,17 +3,17 @@ use Rattle.merging.specs.Merge.{same_sides}
 use Rattle.merging_call.proofs.same_sides.Statement.{statement}
 use Rattle.merging_call.proofs.same_sides.Tie as tie
 
-returns : tie.Need-returns
+returns : tie.Need-returns-then-a-b
 unfolding same_sides
-returns c = rw (ne_eqb _ _ c.if1.true)
+returns c = rw (ne_eqb _ _ c.if-a-b.true)
 
-returns-2 : tie.Need-returns-2
+returns-2 : tie.Need-returns-then-a-b-2
 unfolding same_sides
-returns-2 c = rw (eq-eqb _ _ c.before.before.before.if1.false, ne_eqb _ _ c.if2.true)
+returns-2 c = rw (eq-eqb _ _ c.if-a-b.false, ne_eqb _ _ c.if-a-b-2.true)
 
-returns-3 : tie.Need-returns-3
+returns-3 : tie.Need-returns
 unfolding same_sides
-returns-3 c = rw (eq-eqb _ _ c.before.before.before.before.before.if1.false, eq-eqb _ _ c.before.before.if2.false)
+returns-3 c = rw (eq-eqb _ _ c.if-a-b.false, eq-eqb _ _ c.if-a-b-2.false)
 
 pub same_sides_spec : {M : Type 1} → statement M
 same_sides_spec = tie.close (tie.spec returns returns-2 returns-3)

@@ -1,3 +1,4 @@
+use Rattle.std.proofs.lemmas.Bool.{not_from_false, not_from_true}
 use mathlib.Core.Bool.{true}
 use mathlib.Core.Path.{◌≡◌, sym}
 use lib.Seq.{length-take-le}
@@ -8,81 +9,81 @@ use borrow.Author.Rules.{rules}
 use Rattle.merging_call.proofs.write_kept.Statement.{statement}
 use Rattle.merging_call.proofs.write_kept.Tie as tie
 
-inside : (c : tie.Else1) → let a = c.before.before.before.before.before.args in
+inside : (c : tie.Else-not-points_in_box) → let a = c.args in
     all_inside a.head.x a.head.y a.head.z (positions_in a.head.count a.nodes.now) ≡ true
 inside c =
-    let a = c.before.before.before.before.before.args in
-    box_passed a.head a.nodes.now c.before.points-in-box.ensures c.if1.false
+    let a = c.args in
+    box_passed a.head a.nodes.now c.points_in_box.ensures (not_from_true _ c.if-not-points_in_box.false)
 
-points-in-box-requires : tie.Need-points-in-box-requires
+points-in-box-requires : tie.Need-points_in_box-requires
 points-in-box-requires c κs = search rules
 
-same_length : tie.Need-same-length
+same_length : tie.Need-shape_of-nodes-then-not-points_in_box
 same_length c = search rules
 
-returns : tie.Need-returns
+returns : tie.Need-returns-then-not-points_in_box
 returns c =
-    let a = c.before.before.before.before.before.args in
+    let a = c.args in
     outside a.head (positions_in a.head.count a.nodes.now) a.out.now
-    (box_failed a.head a.nodes.now c.before.points-in-box.ensures c.if1.true)
+    (box_failed a.head a.nodes.now c.points_in_box.ensures (not_from_false _ c.if-not-points_in_box.true))
 
-keep-firsts-requires : tie.Need-keep-firsts-requires
+keep-firsts-requires : tie.Need-keep_firsts-count-requires
 keep-firsts-requires c κs = search rules
 
-same-length-2 : tie.Need-same-length-2
+same-length-2 : tie.Need-shape_of-nodes-then-count-gt1016
 same-length-2 c = search rules
 
-returns-2 : tie.Need-returns-2
+returns-2 : tie.Need-returns-then-count-gt1016
 returns-2 c =
-    let a = c.before.before.before.before.before.before.before.before.before.before.args in
-    too_many a.head (positions_in a.head.count a.nodes.now) a.out.now (inside c.before.before.before.before.before) c.before.before.before.keep-firsts.ensures.count c.if2.true
+    let a = c.args in
+    too_many a.head (positions_in a.head.count a.nodes.now) a.out.now (inside c.before.before.before.before.before) c.keep_firsts-count.ensures.count c.if-count-gt1016.true
 
-cast-if3 : tie.Need-overflow-cast-if3
+cast-if3 : tie.Need-overflow_cast-count
 cast-if3 c = search rules
 
-mul-if3 : tie.Need-overflow-mul-if3
+mul-if3 : tie.Need-overflow_mul-count
 mul-if3 c = search rules
 
-add-if3 : tie.Need-overflow-add-if3
+add-if3 : tie.Need-overflow_add-count
 add-if3 c = search rules
 
-same-length-3 : tie.Need-same-length-3
+same-length-3 : tie.Need-shape_of-nodes-then-out-count
 same-length-3 c = search rules
 
-returns-3 : tie.Need-returns-3
+returns-3 : tie.Need-returns-then-out-count
 returns-3 c =
-    let a = c.before.before.before.before.before.before.before.before.before.before.before.args in
-    no_room a.head (positions_in a.head.count a.nodes.now) a.out.now (inside c.before.before.before.before.before.before) c.before.before.before.before.keep-firsts.ensures.count c.before.if2.false c.if3.true
+    let a = c.args in
+    no_room a.head (positions_in a.head.count a.nodes.now) a.out.now (inside c.before.before.before.before.before.before) c.keep_firsts-count.ensures.count c.if-count-gt1016.false c.if-out-count.true
 
-cast-end : tie.Need-overflow-cast-end
+cast-end : tie.Need-overflow_cast-end
 cast-end c = search rules
 
-mul-end : tie.Need-overflow-mul-end
+mul-end : tie.Need-overflow_mul-end
 mul-end c = search rules
 
-slice-reshare-prefix-write-file : tie.Need-slice-reshare-prefix-write-file
-slice-reshare-prefix-write-file c = c.before.before.before.before.keep-firsts.ensures.fits
+slice-reshare-prefix-write-file : tie.Need-slice_bounds-write_file-end
+slice-reshare-prefix-write-file c = c.keep_firsts-count.ensures.fits
 
-slice-aggregate-write-file : tie.Need-slice-aggregate-write-file
-slice-aggregate-write-file c = sym (length-take-le _ _ c.before.before.before.before.before.keep-firsts.ensures.fits)
+slice-aggregate-write-file : tie.Need-slice_bounds-write_file-end-2
+slice-aggregate-write-file c = sym (length-take-le _ _ c.keep_firsts-count.ensures.fits)
 
-write-file-requires : tie.Need-write-file-requires
+write-file-requires : tie.Need-write_file-bytes-requires
 write-file-requires c κs =
-    record { few = c.before.before.before.if2.false; nodes_here = length-take-le _ _ c.before.before.before.before.before.before.keep-firsts.ensures.fits; room≥ = c.before.before.if3.false }
+    record { few = c.if-count-gt1016.false; nodes_here = length-take-le _ _ c.keep_firsts-count.ensures.fits; room≥ = c.if-out-count.false }
 
-same-length-4 : tie.Need-same-length-4
+same-length-4 : tie.Need-shape_of-nodes
 same-length-4 c = search rules
 
-same-length-5 : tie.Need-same-length-5
+same-length-5 : tie.Need-shape_of-out
 same-length-5 c = search rules
 
-returns-4 : tie.Need-returns-4
+returns-4 : tie.Need-returns
 unfolding with_count
 returns-4 c =
-    let a = c.before.before.before.before.before.before.before.before.before.before.before.before.before.before.before.before.args in
-    let k = c.before.before.before.before.before.before.before.before.before.keep-firsts.ensures in
-    let w = c.before.before.write-file.ensures in
-    written a.head (positions_in a.head.count a.nodes.now) a.out.now (inside c.before.before.before.before.before.before.before.before.before.before.before) k.count c.before.before.before.before.before.before.if2.false c.before.before.before.before.before.if3.false k.front w.0 w.1
+    let a = c.args in
+    let k = c.keep_firsts-count.ensures in
+    let w = c.write_file-bytes.ensures in
+    written a.head (positions_in a.head.count a.nodes.now) a.out.now (inside c.before.before.before.before.before.before.before.before.before.before.before) k.count c.if-count-gt1016.false c.if-out-count.false k.front w.0 w.1
 
 pub write_kept_spec : {M : Type 1} → statement M
 write_kept_spec =

@@ -6,67 +6,67 @@ use borrow.Author.Rules.{rules}
 use Rattle.merging_filter.proofs.keep.Statement.{statement}
 use Rattle.merging_filter.proofs.keep.Tie as tie
 
-point-at-requires : tie.Need-point-at-requires
+point-at-requires : tie.Need-point_at-p-requires
 point-at-requires c κs = search rules
 
-is-corner-requires : tie.Need-is-corner-requires
+is-corner-requires : tie.Need-is_corner-requires
 is-corner-requires c κs = search rules
 
-same_length : tie.Need-same-length
+same_length : tie.Need-shape_of-nodes-then-is_corner
 same_length c = search rules
 
-returns : tie.Need-returns
-returns c = λ ns₀ S. corner_stays S c.before.before.point_at.ensures (sym c.before.is-corner.ensures ∙ c.if1.true)
+returns : tie.Need-returns-then-is_corner
+returns c = λ ns₀ S. corner_stays S c.point_at-p.ensures (sym c.is_corner.ensures ∙ c.if-is_corner.true)
 
-probe-requires : tie.Need-probe-requires
+probe-requires : tie.Need-probe-at-requires
 probe-requires c κs = search rules
 
-mul-if2 : tie.Need-overflow-mul-if2
-mul-if2 c = omega (arith, ends≤ c.before.before.before.before.before.before.before.before.before.requires.0 c.probe.ensures)
+mul-if2 : tie.Need-offset_bounds-table-at
+mul-if2 c = omega (arith, ends≤ c.requires.0 c.probe-at.ensures)
 
-slice-read-if2 : tie.Need-slice-read-if2
-slice-read-if2 c = omega (arith, ends≤ c.before.before.before.before.before.before.before.before.before.before.requires.0 c.before.probe.ensures)
+slice-read-if2 : tie.Need-bounds-table-at
+slice-read-if2 c = omega (arith, ends≤ c.requires.0 c.probe-at.ensures)
 
-same-length-2 : tie.Need-same-length-2
+same-length-2 : tie.Need-shape_of-nodes-then-table-at-ne0
 same-length-2 c = search rules
 
-same-length-3 : tie.Need-same-length-3
+same-length-3 : tie.Need-shape_of-table-then-table-at-ne0
 same-length-3 c = search rules
 
-returns-2 : tie.Need-returns-2
-returns-2 c = λ ns₀ S. found_stays S c.before.before.before.before.before.before.before.point_at.ensures c.before.before.probe.ensures c.if2.true
+returns-2 : tie.Need-returns-then-table-at-ne0
+returns-2 c = λ ns₀ S. found_stays S c.point_at-p.ensures c.probe-at.ensures c.if-table-at-ne0.true
 
-put-point-requires : tie.Need-put-point-requires
+put-point-requires : tie.Need-put_point-requires
 put-point-requires c κs = search rules
 
-add-table : tie.Need-overflow-add-table
+add-table : tie.Need-overflow_add-table
 add-table c = search rules
 
-cast-table : tie.Need-overflow-cast-table
+cast-table : tie.Need-overflow_cast-table
 cast-table c = search rules
 
-mul-table : tie.Need-overflow-mul-table
-mul-table c = omega (arith, ends≤ c.before.before.before.before.before.before.before.before.before.before.before.before.before.before.before.requires.0 c.before.before.before.before.before.before.probe.ensures)
+mul-table : tie.Need-offset_bounds-table-at-2
+mul-table c = omega (arith, ends≤ c.requires.0 c.probe-at.ensures)
 
-slice-write-table : tie.Need-slice-write-table
-slice-write-table c = omega (arith, ends≤ c.before.before.before.before.before.before.before.before.before.before.before.before.before.before.before.requires.0 c.before.before.before.before.before.before.probe.ensures)
+slice-write-table : tie.Need-bounds-table-at-2
+slice-write-table c = omega (arith, ends≤ c.requires.0 c.probe-at.ensures)
 
-add-result : tie.Need-overflow-add-result
+add-result : tie.Need-overflow_add-result
 add-result c = search rules
 
-same-length-4 : tie.Need-same-length-4
+same-length-4 : tie.Need-shape_of-nodes
 same-length-4 c = search rules
 
-same-length-5 : tie.Need-same-length-5
+same-length-5 : tie.Need-shape_of-table
 same-length-5 c = search rules
 
-returns-3 : tie.Need-returns-3
+returns-3 : tie.Need-returns
 returns-3 c =
-    let t = c.before.before.before.before in
-    let f = t.before.before in
-    let s = f.before.before.before.before.before.before.before.before.before in
-    let q = f.before.before.before.before.before in
-    λ ns₀ S. joins S q.point_at.ensures f.probe.ensures (sym f.before.before.before.before.is-corner.ensures ∙ f.before.before.before.if1.false) t.if2.false (omega arith) (omega arith) c.before.before.put-point.ensures
+    let t = c in
+    let f = t in
+    let s = f in
+    let q = f in
+    λ ns₀ S. joins S q.point_at-p.ensures f.probe-at.ensures (sym f.is_corner.ensures ∙ f.if-is_corner.false) t.if-table-at-ne0.false (omega arith) (omega arith) c.put_point.ensures
 
 pub keep_spec : {M : Type 1} → statement M
 keep_spec =

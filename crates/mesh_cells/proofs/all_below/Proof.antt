@@ -6,45 +6,45 @@ use borrow.Author.Rules.{rules}
 use Rattle.mesh_cells.proofs.all_below.Statement.{statement}
 use Rattle.mesh_cells.proofs.all_below.Tie as tie
 
-array-read-if1 : tie.Need-array-read-if1
+array-read-if1 : tie.Need-bounds-k-3
 array-read-if1 c = search rules
 
-cast-if1 : tie.Need-overflow-cast-if1
+cast-if1 : tie.Need-overflow_cast-k
 cast-if1 c = search rules
 
-returns : tie.Need-returns
+returns : tie.Need-returns-then-np-k
 unfolding numbers_below all_below
-returns c = rw (le-ltb _ _ c.if1.true)
+returns c = rw (le-ltb _ _ c.if-np-k.true)
 
-array-read-if2 : tie.Need-array-read-if2
+array-read-if2 : tie.Need-bounds-k-2
 array-read-if2 c = search rules
 
-cast-if2 : tie.Need-overflow-cast-if2
+cast-if2 : tie.Need-overflow_cast-k-2
 cast-if2 c = search rules
 
-returns-2 : tie.Need-returns-2
+returns-2 : tie.Need-returns-then-np-k-2
 unfolding numbers_below all_below
-returns-2 c = rw (lt-ltb _ _ c.before.if1.false, le-ltb _ _ c.if2.true)
+returns-2 c = rw (lt-ltb _ _ c.if-np-k.false, le-ltb _ _ c.if-np-k-2.true)
 
-array-read-if3 : tie.Need-array-read-if3
+array-read-if3 : tie.Need-bounds-k-1
 array-read-if3 c = search rules
 
-cast-if3 : tie.Need-overflow-cast-if3
+cast-if3 : tie.Need-overflow_cast-k-3
 cast-if3 c = search rules
 
-returns-3 : tie.Need-returns-3
+returns-3 : tie.Need-returns-then-np-k-3
 unfolding numbers_below all_below
-returns-3 c = rw (lt-ltb _ _ c.before.before.if1.false, lt-ltb _ _ c.before.if2.false, le-ltb _ _ c.if3.true)
+returns-3 c = rw (lt-ltb _ _ c.if-np-k.false, lt-ltb _ _ c.if-np-k-2.false, le-ltb _ _ c.if-np-k-3.true)
 
-array-read-result : tie.Need-array-read-result
+array-read-result : tie.Need-bounds-k-0
 array-read-result c = search rules
 
-cast-result : tie.Need-overflow-cast-result
+cast-result : tie.Need-overflow_cast-result
 cast-result c = search rules
 
-returns-4 : tie.Need-returns-4
+returns-4 : tie.Need-returns
 unfolding numbers_below all_below
-returns-4 c = rw (lt-ltb _ _ c.before.before.if1.false, lt-ltb _ _ c.before.if2.false, lt-ltb _ _ c.if3.false, and-true)
+returns-4 c = rw (lt-ltb _ _ c.if-np-k.false, lt-ltb _ _ c.if-np-k-2.false, lt-ltb _ _ c.if-np-k-3.false, and-true)
 
 pub all_below_spec : {M : Type 1} → statement M
 all_below_spec =

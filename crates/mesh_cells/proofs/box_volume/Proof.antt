@@ -11,13 +11,13 @@ six_two c = mul-le-mul {n₁ = 6 * c.args.x} {n₂ = 6 * 131072} (omega (arith, 
 six_three : (c : tie.Start) → 6 * c.args.x * c.args.y * c.args.z ≤ 6 * 131072 * 131072 * 131072
 six_three c = mul-le-mul (six_two c) c.requires.2.high
 
-mul-result : tie.Need-overflow-mul-result
+mul-result : tie.Need-overflow_mul-result
 mul-result c = search rules
 
-mul-result-2 : tie.Need-overflow-mul-result-2
+mul-result-2 : tie.Need-overflow_mul-result-2
 mul-result-2 c = record { fits = omega (arith, six_two c) }
 
-mul-result-3 : tie.Need-overflow-mul-result-3
+mul-result-3 : tie.Need-overflow_mul-result-3
 mul-result-3 c = record { fits = omega (arith, six_three c) }
 
 returns : tie.Need-returns

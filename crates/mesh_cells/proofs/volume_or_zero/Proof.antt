@@ -1,3 +1,4 @@
+use Rattle.std.proofs.lemmas.Bool.{not_from_false, not_from_true}
 use mathlib.Core.Bool.{true, not}
 use mathlib.Core.Path.{◌≡◌, sym, ap, ◌∙◌, subst}
 use lib.Dec.{ltb}
@@ -20,52 +21,52 @@ use borrow.Author.Rules.{rules}
 use Rattle.mesh_cells.proofs.volume_or_zero.Statement.{statement}
 use Rattle.mesh_cells.proofs.volume_or_zero.Tie as tie
 
-abbrev start : tie.Else1 → tie.Start
+abbrev start : tie.Else-not-all_below → tie.Start
 start c = c.before.before.before
 
-below : (c : tie.Else1) → numbers_below (start c).args.np (start c).args.k ≡ true
-below c = test_passed c.before.all-below.ensures c.if1.false
+below : (c : tie.Else-not-all_below) → numbers_below (start c).args.np (start c).args.k ≡ true
+below c = test_passed c.all_below.ensures (not_from_true _ c.if-not-all_below.false)
 
-cornered : (c : tie.Else1) → Cornered (start c).args.points.now (start c).args.k
+cornered : (c : tie.Else-not-all_below) → Cornered (start c).args.points.now (start c).args.k
 unfolding numbers_below
 cornered c =
     let a = (start c).args in
     placed_cornered (start c).requires (λ i l. ltb-true _ _ (all_at 4 (λ i. ltb (get_or a.k i 0) a.np) (below c) i l))
 
-abbrev volume-of : tie.After-volume → ℤ
+abbrev volume-of : tie.After-volume-v → ℤ
 volume-of c = let a = (start c.before.before).args in volume_of_four a.points.now a.k
 
 -- what is read back of the volume
-is : (c : tie.After-volume) → back w64 c.volume.result ≡ volume-of c
+is : (c : tie.After-volume-v) → back w64 c.volume-v.result ≡ volume-of c
 unfolding volume
-is c = to_z-of_z {w = w64} (record { sfits = c.volume.type-inv }) ∙ (c.volume.ensures ∙ rw c.before.positions.ensures)
+is c = to_z-of_z {w = w64} (record { sfits = c.volume-v.type_inv }) ∙ (c.volume-v.ensures ∙ rw c.positions.ensures)
 
-sign : (c : tie.After-volume) → lt_z (pos 0) (volume-of c) ≡ not (le_z (back w64 c.volume.result) (pos 0))
-sign c = ap (lt_z (pos 0)) (sym (is c)) ∙ le_z_not_lem (back w64 c.volume.result) (pos 0)
+sign : (c : tie.After-volume-v) → lt_z (pos 0) (volume-of c) ≡ not (le_z (back w64 c.volume-v.result) (pos 0))
+sign c = ap (lt_z (pos 0)) (sym (is c)) ∙ le_z_not_lem (back w64 c.volume-v.result) (pos 0)
 
-all-below-requires : tie.Need-all-below-requires
+all-below-requires : tie.Need-all_below-requires
 all-below-requires c κs = search rules
 
-returns : tie.Need-returns
+returns : tie.Need-returns-then-not-all_below
 unfolding volume_or_zero four_ok
-returns c = rw (test_failed c.before.all-below.ensures c.if1.true)
+returns c = rw (test_failed c.all_below.ensures (not_from_false _ c.if-not-all_below.true))
 
 positions-requires : tie.Need-positions-requires
 positions-requires c κs = (cornered c).has
 
-volume-requires : tie.Need-volume-requires
+volume-requires : tie.Need-volume-v-requires
 volume-requires c κs = read_in_range c.positions.ensures (cornered c.before)
 
-returns-2 : tie.Need-returns-2
+returns-2 : tie.Need-returns-then-v-le0
 unfolding volume_or_zero four_ok
-returns-2 c = rw (below c.before.before.before, sign c.before ∙ ap not c.if2.true)
+returns-2 c = rw (below c.before.before.before, sign c.before ∙ ap not c.if-v-le0.true)
 
-cast-result : tie.Need-overflow-cast-result
-cast-result c = let v = c.before.volume in positive_casts (back w64 v.result) (subst (SFits w64) {x = v.result} (sym (to_z-of_z {w = w64} (record { sfits = v.type-inv }))) (record { sfits = v.type-inv })) c.if2.false
+cast-result : tie.Need-overflow_cast-result
+cast-result c = let v = c.volume-v in positive_casts (back w64 v.result) (subst (SFits w64) {x = v.result} (sym (to_z-of_z {w = w64} (record { sfits = v.type_inv }))) (record { sfits = v.type_inv })) c.if-v-le0.false
 
-returns-3 : tie.Need-returns-3
+returns-3 : tie.Need-returns
 unfolding volume_or_zero four_ok
-returns-3 c = rw (below c.before.before.before, sign c.before ∙ ap not c.if2.false) (ap nat_abs (is c.before))
+returns-3 c = rw (below c.before.before.before, sign c.before ∙ ap not c.if-v-le0.false) (ap nat_abs (is c.before))
 
 pub volume_or_zero_spec : {M : Type 1} → statement M
 volume_or_zero_spec =

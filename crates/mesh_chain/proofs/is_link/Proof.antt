@@ -1,3 +1,4 @@
+use Rattle.std.proofs.lemmas.Bool.{not_from_false, not_from_true}
 use Prim.Native.Nat.{ℕ, ◌+◌, ◌*◌, ◌<◌}
 use mathlib.Core.Bool.{◌&&◌, and-true}
 use mathlib.Core.List.{List, []}
@@ -31,61 +32,61 @@ link_is cs ns c e h =
     let at = entry cs ns c e h in
     rw (at 3 (omega arith), at 2 (omega arith), at 1 (omega arith), and-true)
 
-freed_is : (c : tie.After-is-freed) → let a = c.before.before.before.before.args in
-    c.is-freed.result ≡ freed (tables [] a.corners.now a.neighbours.now) a.c
+freed_is : (c : tie.After-is_freed) → let a = c.args in
+    c.is_freed.result ≡ freed (tables [] a.corners.now a.neighbours.now) a.c
 freed_is c =
-    let a = c.before.before.before.before.args in
-    c.is-freed.ensures ∙ (ap four_freed c.before.four-at.ensures ∙ four_freed_lem (tables [] a.corners.now a.neighbours.now) a.c)
+    let a = c.args in
+    c.is_freed.ensures ∙ (ap four_freed c.four_at.ensures ∙ four_freed_lem (tables [] a.corners.now a.neighbours.now) a.c)
 
-four-at-requires : tie.Need-four-at-requires
+four-at-requires : tie.Need-four_at-requires
 four-at-requires c κs = search rules
 
-is-freed-requires : tie.Need-is-freed-requires
+is-freed-requires : tie.Need-is_freed-requires
 is-freed-requires c κs = search rules
 
-returns : tie.Need-returns
+returns : tie.Need-returns-then-not-is_freed
 unfolding freed_entry
-returns c = rw (test_failed (freed_is c.before) c.if1.true)
+returns c = rw (test_failed (freed_is c.before) (not_from_false _ c.if-not-is_freed.true))
 
-four-at-requires-2 : tie.Need-four-at-requires-2
+four-at-requires-2 : tie.Need-four_at-u-requires
 four-at-requires-2 c κs = search rules
 
-array-read-if2 : tie.Need-array-read-if2
+array-read-if2 : tie.Need-bounds-u-3
 array-read-if2 c = search rules
 
-returns-2 : tie.Need-returns-2
+returns-2 : tie.Need-returns-then-u
 returns-2 c =
     let f = c.before in
     rw (
-      link_is _ _ _ f.four-at2.ensures f.before.before.before.before.before.before.requires.1,
-      test_passed (freed_is f.before.before) f.before.if1.false,
-      ne_eqb _ none c.if2.true,
+      link_is _ _ _ f.four_at-u.ensures f.requires.1,
+      test_passed (freed_is f.before.before) (not_from_true _ f.if-not-is_freed.false),
+      ne_eqb _ none c.if-u.true,
     )
 
-array-read-if3 : tie.Need-array-read-if3
+array-read-if3 : tie.Need-bounds-u-2
 array-read-if3 c = search rules
 
-returns-3 : tie.Need-returns-3
+returns-3 : tie.Need-returns-then-u-2
 returns-3 c =
     let f = c.before.before in
     rw (
-      link_is _ _ _ f.four-at2.ensures f.before.before.before.before.before.before.requires.1,
-      test_passed (freed_is f.before.before) f.before.if1.false,
-      eq-eqb _ none c.before.if2.false,
-      ne_eqb _ none c.if3.true,
+      link_is _ _ _ f.four_at-u.ensures f.requires.1,
+      test_passed (freed_is f.before.before) (not_from_true _ f.if-not-is_freed.false),
+      eq-eqb _ none c.if-u.false,
+      ne_eqb _ none c.if-u-2.true,
     )
 
-array-read-result : tie.Need-array-read-result
+array-read-result : tie.Need-bounds-u-1
 array-read-result c = search rules
 
-returns-4 : tie.Need-returns-4
+returns-4 : tie.Need-returns
 returns-4 c =
     let f = c.before.before in
     rw (
-      link_is _ _ _ f.four-at2.ensures f.before.before.before.before.before.before.requires.1,
-      test_passed (freed_is f.before.before) f.before.if1.false,
-      eq-eqb _ none c.before.if2.false,
-      eq-eqb _ none c.if3.false,
+      link_is _ _ _ f.four_at-u.ensures f.requires.1,
+      test_passed (freed_is f.before.before) (not_from_true _ f.if-not-is_freed.false),
+      eq-eqb _ none c.if-u.false,
+      eq-eqb _ none c.if-u-2.false,
     )
 
 pub is_link_spec : {M : Type 1} → statement M

@@ -7,25 +7,25 @@ use Rattle.mesh.proofs.Numbers.{byte≤}
 use Rattle.mesh_faces.proofs.odd_order.Statement.{statement}
 use Rattle.mesh_faces.proofs.odd_order.Tie as tie
 
-add-result : tie.Need-overflow-add-result
+add-result : tie.Need-overflow_add-result
 add-result c = search rules
 
-cast-result : tie.Need-overflow-cast-result
+cast-result : tie.Need-overflow_cast-result
 cast-result c = search rules
 
-add-result-2 : tie.Need-overflow-add-result-2
+add-result-2 : tie.Need-overflow_add-result-2
 add-result-2 c = omega (arith, byte≤ (ltb c.args.q c.args.p))
 
-cast-result-2 : tie.Need-overflow-cast-result-2
+cast-result-2 : tie.Need-overflow_cast-result-2
 cast-result-2 c = search rules
 
-add-result-3 : tie.Need-overflow-add-result-3
+add-result-3 : tie.Need-overflow_add-result-3
 add-result-3 c = omega (arith, byte≤ (ltb c.args.q c.args.p), byte≤ (ltb c.args.r c.args.p))
 
-cast-result-3 : tie.Need-overflow-cast-result-3
+cast-result-3 : tie.Need-overflow_cast-result-3
 cast-result-3 c = search rules
 
-add-result-4 : tie.Need-overflow-add-result-4
+add-result-4 : tie.Need-overflow_add-result-4
 add-result-4 c = omega (arith, byte≤ (ltb c.args.q c.args.p), byte≤ (ltb c.args.r c.args.p), byte≤ (ltb c.args.r c.args.q))
 
 returns : tie.Need-returns

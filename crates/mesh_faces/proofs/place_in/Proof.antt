@@ -12,7 +12,7 @@ use Rattle.mesh.proofs.Numbers.{byte≤}
 use Rattle.mesh.specs.Inner.Faces.{place_in}
 
 abbrev differs : tie.Start → ℕ → Bool
-differs s k = not (eqb (get_or s.args.t1 k 0) s.args.v)
+differs s k = not (eqb (get_or s.args.b k 0) s.args.v)
 
 step : (b : Bool) (x k : ℕ) → x ≤ k → bool_byte b * (1 + x) ≤ 1 + k
 step true x k h = omega arith
@@ -29,54 +29,54 @@ place false false true d = omega arith
 place false false false true = refl
 place false false false false = refl
 
-array-read-e0 : tie.Need-array-read-e0
+array-read-e0 : tie.Need-bounds-b-0
 array-read-e0 c = search rules
 
-cast-e0 : tie.Need-overflow-cast-e0
+cast-e0 : tie.Need-overflow_cast-e0
 cast-e0 c = search rules
 
-array-read-e1 : tie.Need-array-read-e1
+array-read-e1 : tie.Need-bounds-b-1
 array-read-e1 c = search rules
 
-cast-e1 : tie.Need-overflow-cast-e1
+cast-e1 : tie.Need-overflow_cast-e1
 cast-e1 c = search rules
 
-array-read-e2 : tie.Need-array-read-e2
+array-read-e2 : tie.Need-bounds-b-2
 array-read-e2 c = search rules
 
-cast-e2 : tie.Need-overflow-cast-e2
+cast-e2 : tie.Need-overflow_cast-e2
 cast-e2 c = search rules
 
-array-read-e3 : tie.Need-array-read-e3
+array-read-e3 : tie.Need-bounds-b-3
 array-read-e3 c = search rules
 
-cast-e3 : tie.Need-overflow-cast-e3
+cast-e3 : tie.Need-overflow_cast-e3
 cast-e3 c = search rules
 
-mul-result : tie.Need-overflow-mul-result
+mul-result : tie.Need-overflow_mul-result
 mul-result c = omega (arith, last (differs c 3))
 
-add-result : tie.Need-overflow-add-result
+add-result : tie.Need-overflow_add-result
 add-result c = omega (arith, last (differs c 3))
 
-mul-result-2 : tie.Need-overflow-mul-result-2
+mul-result-2 : tie.Need-overflow_mul-result-2
 mul-result-2 c = omega (arith, step (differs c 2) (5 * bool_byte (differs c 3)) 5 (last (differs c 3)))
 
-add-result-2 : tie.Need-overflow-add-result-2
+add-result-2 : tie.Need-overflow_add-result-2
 add-result-2 c = omega (arith, step (differs c 2) (5 * bool_byte (differs c 3)) 5 (last (differs c 3)))
 
-mul-result-3 : tie.Need-overflow-mul-result-3
+mul-result-3 : tie.Need-overflow_mul-result-3
 mul-result-3 c = omega (arith, step (differs c 1) _ 6 (step (differs c 2) (5 * bool_byte (differs c 3)) 5 (last (differs c 3))))
 
-add-result-3 : tie.Need-overflow-add-result-3
+add-result-3 : tie.Need-overflow_add-result-3
 add-result-3 c = omega (arith, step (differs c 1) _ 6 (step (differs c 2) (5 * bool_byte (differs c 3)) 5 (last (differs c 3))))
 
-mul-result-4 : tie.Need-overflow-mul-result-4
+mul-result-4 : tie.Need-overflow_mul-result-4
 mul-result-4 c = omega (arith, step (differs c 0) _ 7 (step (differs c 1) _ 6 (step (differs c 2) (5 * bool_byte (differs c 3)) 5 (last (differs c 3)))))
 
 returns : tie.Need-returns
 unfolding place_in
-returns c = place (eqb (get_or c.args.t1 0 0) c.args.v) (eqb (get_or c.args.t1 1 0) c.args.v) (eqb (get_or c.args.t1 2 0) c.args.v) (eqb (get_or c.args.t1 3 0) c.args.v)
+returns c = place (eqb (get_or c.args.b 0 0) c.args.v) (eqb (get_or c.args.b 1 0) c.args.v) (eqb (get_or c.args.b 2 0) c.args.v) (eqb (get_or c.args.b 3 0) c.args.v)
 
 pub place_in_spec : {M : Type 1} → statement M
 place_in_spec =

@@ -20,26 +20,26 @@ each : (k : ℕ) → k < 6 → row k ≡ cell_at start_corners start_neighbours 
 unfolding cell_at four_at start_corners start_neighbours
 each = below_six (λ k. row k ≡ cell_at start_corners start_neighbours k) refl refl refl refl refl refl
 
-add-next : tie.Need-overflow-add-next
+add-next : tie.Need-overflow_add-next
 add-next c = search rules
 
-cast-next : tie.Need-overflow-cast-next
+cast-next : tie.Need-overflow_cast-next
 cast-next c = search rules
 
-add-last : tie.Need-overflow-add-last
+add-last : tie.Need-overflow_add-last
 add-last c = search rules
 
-cast-last : tie.Need-overflow-cast-last
+cast-last : tie.Need-overflow_cast-last
 cast-last c = search rules
 
-mul-corners : tie.Need-overflow-mul-corners
+mul-corners : tie.Need-offset_bounds-k
 mul-corners c = search rules
 
-array-copy-out-corners : tie.Need-array-copy-out-corners
+array-copy-out-corners : tie.Need-bounds-k-k
 array-copy-out-corners c = search rules
 
 returns : tie.Need-returns
-returns c = each c.before.args.k c.before.requires
+returns c = each c.args.k c.requires
 
 pub start_cell_spec : {M : Type 1} → statement M
 start_cell_spec =

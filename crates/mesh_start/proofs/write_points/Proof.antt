@@ -8,44 +8,44 @@ use Rattle.mesh.proofs.Loops.{copy_more, copy_all}
 use Rattle.mesh_start.proofs.write_points.Statement.{statement}
 use Rattle.mesh_start.proofs.write_points.Tie as tie
 
-abbrev invariant-loop : tie.invariant-loop
+abbrev invariant-loop : tie.invariant-loop-i
 invariant-loop points₀ from i₀ points i = (i ≤ 24) × (length points ≡ length points₀) × (points ≡ take i from ++ drop i points₀)
 
-abbrev decreases-loop : tie.decreases-loop
+abbrev decreases-loop : tie.decreases-loop-i
 decreases-loop points₀ from i₀ points i = 24 - i
 
-loop-holds : tie.Need-loop-init invariant-loop decreases-loop
+loop-holds : tie.Need-loop-i-init invariant-loop decreases-loop
 loop-holds c = (omega arith, refl, refl)
 
-mul-points : tie.Need-overflow-mul-points invariant-loop decreases-loop
+mul-points : tie.Need-offset_bounds-from-i invariant-loop decreases-loop
 mul-points c = omega arith
 
-array-read-points : tie.Need-array-read-points invariant-loop decreases-loop
+array-read-points : tie.Need-bounds-from-i invariant-loop decreases-loop
 array-read-points c = omega arith
 
-mul-points-2 : tie.Need-overflow-mul-points-2 invariant-loop decreases-loop
+mul-points-2 : tie.Need-offset_bounds-points-i invariant-loop decreases-loop
 mul-points-2 c = omega arith
 
-slice-write-points : tie.Need-slice-write-points invariant-loop decreases-loop
+slice-write-points : tie.Need-bounds-points-i invariant-loop decreases-loop
 slice-write-points c = omega arith
 
-add-i : tie.Need-overflow-add-i invariant-loop decreases-loop
+add-i : tie.Need-overflow_add-i invariant-loop decreases-loop
 add-i c = omega arith
 
-loop-less : tie.Need-loop-smaller invariant-loop decreases-loop
+loop-less : tie.Need-loop-i-smaller invariant-loop decreases-loop
 loop-less c = omega arith
 
-loop-again : tie.Need-loop-preserved invariant-loop decreases-loop
+loop-again : tie.Need-loop-i-preserved invariant-loop decreases-loop
 loop-again c =
-    let l = c.before.loop in
-    let a = c.before.before.args in
-    (omega arith, simp length-set l.invariant.1, rw l.invariant.2 (copy_more l.i a.t2 a.points.now (omega arith) (omega arith)))
+    let l = c.loop-i in
+    let a = c.args in
+    (omega arith, simp length-set l.invariant.1, rw l.invariant.2 (copy_more l.i a.from a.points.now (omega arith) (omega arith)))
 
-same_length : tie.Need-same-length invariant-loop decreases-loop
-same_length c = c.before.loop.invariant.1
+same_length : tie.Need-shape_of-points invariant-loop decreases-loop
+same_length c = c.loop-i.invariant.1
 
 returns : tie.Need-returns invariant-loop decreases-loop
-returns c = let l = c.before.loop in copy_all l.i _ _ _ l.invariant.2 (omega arith) (omega arith)
+returns c = let l = c.loop-i in copy_all l.i _ _ _ l.invariant.2 (omega arith) (omega arith)
 
 pub write_points_spec : {M : Type 1} → statement M
 write_points_spec =

@@ -9,37 +9,37 @@ use Rattle.mesh.proofs.Loops.{clear_all}
 use Rattle.mesh_tables.proofs.clear.Statement.{statement}
 use Rattle.mesh_tables.proofs.clear.Tie as tie
 
-abbrev invariant-loop : tie.invariant-loop
+abbrev invariant-loop : tie.invariant-loop-i
 invariant-loop s₀ i₀ s i = (i ≤ length s₀) × (length s ≡ length s₀) × (s ≡ replicate i 0 ++ drop i s₀)
 
-abbrev decreases-loop : tie.decreases-loop
+abbrev decreases-loop : tie.decreases-loop-i
 decreases-loop s₀ i₀ s i = length s₀ - i
 
-loop-holds : tie.Need-loop-init invariant-loop decreases-loop
+loop-holds : tie.Need-loop-i-init invariant-loop decreases-loop
 loop-holds c = (omega arith, refl, refl)
 
-mul-s : tie.Need-overflow-mul-s invariant-loop decreases-loop
+mul-s : tie.Need-offset_bounds-s-i invariant-loop decreases-loop
 mul-s c = omega arith
 
-slice-write-s : tie.Need-slice-write-s invariant-loop decreases-loop
+slice-write-s : tie.Need-bounds-s-i invariant-loop decreases-loop
 slice-write-s c = omega arith
 
-add-i : tie.Need-overflow-add-i invariant-loop decreases-loop
+add-i : tie.Need-overflow_add-i invariant-loop decreases-loop
 add-i c = omega arith
 
-loop-less : tie.Need-loop-smaller invariant-loop decreases-loop
+loop-less : tie.Need-loop-i-smaller invariant-loop decreases-loop
 loop-less c = omega arith
 
-loop-again : tie.Need-loop-preserved invariant-loop decreases-loop
+loop-again : tie.Need-loop-i-preserved invariant-loop decreases-loop
 loop-again c =
-    let l = c.before.loop in
-    (omega arith, simp length-set l.invariant.1, rw l.invariant.2 (fill_more l.i 0 c.before.before.args.s.now (omega arith)))
+    let l = c.loop-i in
+    (omega arith, simp length-set l.invariant.1, rw l.invariant.2 (fill_more l.i 0 c.args.s.now (omega arith)))
 
-same_length : tie.Need-same-length invariant-loop decreases-loop
-same_length c = c.before.loop.invariant.1
+same_length : tie.Need-shape_of-s invariant-loop decreases-loop
+same_length c = c.loop-i.invariant.1
 
 returns : tie.Need-returns invariant-loop decreases-loop
-returns c = let l = c.before.loop in clear_all l.i _ _ l.invariant.2 l.invariant.0 (omega arith)
+returns c = let l = c.loop-i in clear_all l.i _ _ l.invariant.2 l.invariant.0 (omega arith)
 
 pub clear_spec : {M : Type 1} → statement M
 clear_spec =

@@ -7,33 +7,33 @@ use Rattle.mesh.specs.Inner.Cells.{four_freed}
 use Rattle.mesh_tables.proofs.is_freed.Statement.{statement}
 use Rattle.mesh_tables.proofs.is_freed.Tie as tie
 
-array-read-if1 : tie.Need-array-read-if1
+array-read-if1 : tie.Need-bounds-k-3
 array-read-if1 c = search rules
 
-returns : tie.Need-returns
+returns : tie.Need-returns-then-k
 unfolding four_freed all_below
-returns c = rw (ne_eqb _ none c.if1.true)
+returns c = rw (ne_eqb _ none c.if-k.true)
 
-array-read-if2 : tie.Need-array-read-if2
+array-read-if2 : tie.Need-bounds-k-2
 array-read-if2 c = search rules
 
-returns-2 : tie.Need-returns-2
+returns-2 : tie.Need-returns-then-k-2
 unfolding four_freed all_below
-returns-2 c = rw (eq-eqb _ none c.before.if1.false, ne_eqb _ none c.if2.true)
+returns-2 c = rw (eq-eqb _ none c.if-k.false, ne_eqb _ none c.if-k-2.true)
 
-array-read-if3 : tie.Need-array-read-if3
+array-read-if3 : tie.Need-bounds-k-1
 array-read-if3 c = search rules
 
-returns-3 : tie.Need-returns-3
+returns-3 : tie.Need-returns-then-k-3
 unfolding four_freed all_below
-returns-3 c = rw (eq-eqb _ none c.before.before.if1.false, eq-eqb _ none c.before.if2.false, ne_eqb _ none c.if3.true)
+returns-3 c = rw (eq-eqb _ none c.if-k.false, eq-eqb _ none c.if-k-2.false, ne_eqb _ none c.if-k-3.true)
 
-array-read-result : tie.Need-array-read-result
+array-read-result : tie.Need-bounds-k-0
 array-read-result c = search rules
 
-returns-4 : tie.Need-returns-4
+returns-4 : tie.Need-returns
 unfolding four_freed all_below
-returns-4 c = rw (eq-eqb _ none c.before.before.if1.false, eq-eqb _ none c.before.if2.false, eq-eqb _ none c.if3.false, and-true)
+returns-4 c = rw (eq-eqb _ none c.if-k.false, eq-eqb _ none c.if-k-2.false, eq-eqb _ none c.if-k-3.false, and-true)
 
 pub is_freed_spec : {M : Type 1} → statement M
 is_freed_spec =

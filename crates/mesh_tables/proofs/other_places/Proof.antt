@@ -22,19 +22,19 @@ third_is : (b : Bool) → 3 - bool_byte b ≡ cond b 2 3
 third_is true = refl
 third_is false = refl
 
-cast-t3 : tie.Need-overflow-cast-t3
+cast-t3 : tie.Need-overflow_cast-result
 cast-t3 c = search rules
 
-cast-t5 : tie.Need-overflow-cast-t5
+cast-t5 : tie.Need-overflow_cast-result-2
 cast-t5 c = search rules
 
-add-t6 : tie.Need-overflow-add-t6
+add-t6 : tie.Need-overflow_add-result
 add-t6 c = omega (arith, byte≤ (ltb c.args.i 2))
 
-cast-t8 : tie.Need-overflow-cast-t8
+cast-t8 : tie.Need-overflow_cast-result-3
 cast-t8 c = search rules
 
-sub-t9 : tie.Need-overflow-sub-t9
+sub-t9 : tie.Need-overflow_sub-result
 sub-t9 c = omega (arith, byte≤ (eqb c.args.i 3))
 
 returns : tie.Need-returns

@@ -1,3 +1,4 @@
+use Rattle.std.proofs.lemmas.Bool.{not_from_false, not_from_true}
 use Prim.Native.Nat.{◌-◌, ◌≤◌}
 use native.Mathlib.Omega.{arith}
 use mathlib.Core.Bool.{true}
@@ -11,38 +12,38 @@ use Rattle.mesh.specs.Tables.{point_in}
 use Rattle.mesh_tables.proofs.points_in_box.Statement.{statement}
 use Rattle.mesh_tables.proofs.points_in_box.Tie as tie
 
-abbrev invariant-loop : tie.invariant-loop
+abbrev invariant-loop : tie.invariant-loop-k
 invariant-loop x y z points count n k₀ k = (k ≤ n) × (all_below k (λ i. in_box x y z (point_in points i)) ≡ true)
 
-abbrev decreases-loop : tie.decreases-loop
+abbrev decreases-loop : tie.decreases-loop-k
 decreases-loop x y z points count n k₀ k = n - k
 
-loop-holds : tie.Need-loop-init invariant-loop decreases-loop
+loop-holds : tie.Need-loop-k-init invariant-loop decreases-loop
 unfolding all_below
 loop-holds c = (omega arith, refl)
 
-point-at-requires : tie.Need-point-at-requires invariant-loop decreases-loop
+point-at-requires : tie.Need-point_at-requires invariant-loop decreases-loop
 point-at-requires c κs = record { fits = omega arith }
 
-in-box-requires : tie.Need-in-box-requires invariant-loop decreases-loop
+in-box-requires : tie.Need-in_box-requires invariant-loop decreases-loop
 in-box-requires c κs = search rules
 
-returns : tie.Need-returns invariant-loop decreases-loop
+returns : tie.Need-returns-then-not-in_box invariant-loop decreases-loop
 returns c =
-    sym (all_fails _ _ _ (omega arith) (test_failed (c.before.in_box_lem.ensures ∙ ap (in_box _ _ _) c.before.before.point_at.ensures) c.if1.true))
+    sym (all_fails _ _ _ (omega arith) (test_failed (c.in_box.ensures ∙ ap (in_box _ _ _) c.point_at.ensures) (not_from_false _ c.if-not-in_box.true)))
 
-add-k : tie.Need-overflow-add-k invariant-loop decreases-loop
+add-k : tie.Need-overflow_add-k invariant-loop decreases-loop
 add-k c = omega arith
 
-loop-less : tie.Need-loop-smaller invariant-loop decreases-loop
+loop-less : tie.Need-loop-k-smaller invariant-loop decreases-loop
 loop-less c = omega arith
 
-loop-again : tie.Need-loop-preserved invariant-loop decreases-loop
+loop-again : tie.Need-loop-k-preserved invariant-loop decreases-loop
 loop-again c =
-    (omega arith, all_more _ _ c.before.before.before.before.loop.invariant.1 (test_passed (c.before.in_box_lem.ensures ∙ ap (in_box _ _ _) c.before.before.point_at.ensures) c.if1.false))
+    (omega arith, all_more _ _ c.loop-k.invariant.1 (test_passed (c.in_box.ensures ∙ ap (in_box _ _ _) c.point_at.ensures) (not_from_true _ c.if-not-in_box.false)))
 
-returns-2 : tie.Need-returns-2 invariant-loop decreases-loop
-returns-2 c = sym (all_fewer c.before.loop.k _ _ (omega arith) c.before.loop.invariant.1)
+returns-2 : tie.Need-returns invariant-loop decreases-loop
+returns-2 c = sym (all_fewer c.loop-k.k _ _ (omega arith) c.loop-k.invariant.1)
 
 pub points_in_box_spec : {M : Type 1} → statement M
 points_in_box_spec =

@@ -2,14 +2,14 @@ use borrow.Author.Tests.{eq-eqb, ne_eqb}
 use Rattle.mesh_walls.proofs.level_at.Statement.{statement}
 use Rattle.mesh_walls.proofs.level_at.Tie as tie
 
-returns : tie.Need-returns
-returns c = rw (ne_eqb _ _ c.if1.true)
+returns : tie.Need-returns-then-c-level
+returns c = rw (ne_eqb _ _ c.if-c-level.true)
 
-returns-2 : tie.Need-returns-2
-returns-2 c = rw (eq-eqb _ _ c.before.if1.false, ne_eqb _ _ c.if2.true)
+returns-2 : tie.Need-returns-then-b-level
+returns-2 c = rw (eq-eqb _ _ c.if-c-level.false, ne_eqb _ _ c.if-b-level.true)
 
-returns-3 : tie.Need-returns-3
-returns-3 c = rw (eq-eqb _ _ c.before.if1.false, eq-eqb _ _ c.if2.false)
+returns-3 : tie.Need-returns
+returns-3 c = rw (eq-eqb _ _ c.if-c-level.false, eq-eqb _ _ c.if-b-level.false)
 
 pub level_at_spec : {M : Type 1} → statement M
 level_at_spec = tie.close (tie.spec returns returns-2 returns-3)

@@ -5,34 +5,34 @@ use borrow.Author.Rules.{rules}
 use Rattle.nodefile_numbers.proofs.write_file.Statement.{statement}
 use Rattle.nodefile_numbers.proofs.write_file.Tie as tie
 
-write-numbers-requires : tie.Need-write-numbers-requires
+write-numbers-requires : tie.Need-write_numbers-requires
 write-numbers-requires c κs = search rules
 
-mul-distance : tie.Need-overflow-mul-distance
+mul-distance : tie.Need-overflow_mul-distance
 mul-distance c = search rules
 
-cast-trailer : tie.Need-overflow-cast-trailer
+cast-trailer : tie.Need-overflow_cast-trailer
 cast-trailer c = search rules
 
-slice-aggregate-write-numbers : tie.Need-slice-aggregate-write-numbers
+slice-aggregate-write-numbers : tie.Need-slice_bounds-write_numbers-end
 slice-aggregate-write-numbers c = search rules
 
-sub-write-numbers : tie.Need-overflow-sub-write-numbers
+sub-write-numbers : tie.Need-slice_bounds-write_numbers-count
 sub-write-numbers c = search rules
 
-part-write-numbers-start : tie.Need-slice-bounds-write-numbers-start
+part-write-numbers-start : tie.Need-slice_bounds-write_numbers-start
 part-write-numbers-start c = search rules
 
-part-write-numbers-end : tie.Need-slice-bounds-write-numbers-end
+part-write-numbers-end : tie.Need-slice_bounds-write_numbers-end-2
 part-write-numbers-end c = search rules
 
-write-numbers-requires-2 : tie.Need-write-numbers-requires-2
+write-numbers-requires-2 : tie.Need-write_numbers-requires-2
 write-numbers-requires-2 c κs = search rules
 
-add-result : tie.Need-overflow-add-result
+add-result : tie.Need-overflow_add-result
 add-result c = search rules
 
-same_length : tie.Need-same-length
+same_length : tie.Need-shape_of-out
 same_length c = search rules
 
 returns : tie.Need-returns
@@ -42,7 +42,7 @@ returns c =
     let s = w.before.before.before.before in
     let h = s.args.head in
     let ns = s.args.nodes.now in
-    (sym (file_length h ns s.requires.nodes_here), file_written h ns s.requires.nodes_here s.args.out.now w.write-numbers.ensures c.before.before.write-numbers2.ensures)
+    (sym (file_length h ns s.requires.nodes_here), file_written h ns s.requires.nodes_here s.args.out.now w.write_numbers.ensures c.write_numbers-2.ensures)
 
 pub write_file_spec : {M : Type 1} → statement M
 write_file_spec =

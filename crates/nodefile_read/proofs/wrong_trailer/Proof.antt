@@ -4,20 +4,20 @@ use borrow.Author.Rules.{rules}
 use Rattle.nodefile_read.proofs.wrong_trailer.Statement.{statement}
 use Rattle.nodefile_read.proofs.wrong_trailer.Tie as tie
 
-returns : tie.Need-returns
+returns : tie.Need-returns-then-count-gt1016
 unfolding wrong_trailer
-returns c = rw (lt-ltb _ _ c.if1.true)
+returns c = rw (lt-ltb _ _ c.if-count-gt1016.true)
 
-mul-if2 : tie.Need-overflow-mul-if2
+mul-if2 : tie.Need-overflow_mul-count
 mul-if2 c = search rules
 
-returns-2 : tie.Need-returns-2
+returns-2 : tie.Need-returns-then-distance-count
 unfolding wrong_trailer
-returns-2 c = rw (le-ltb _ _ c.before.if1.false, ne_eqb _ _ c.if2.true)
+returns-2 c = rw (le-ltb _ _ c.if-count-gt1016.false, ne_eqb _ _ c.if-distance-count.true)
 
-returns-3 : tie.Need-returns-3
+returns-3 : tie.Need-returns
 unfolding wrong_trailer
-returns-3 c = rw (le-ltb _ _ c.before.if1.false, eq-eqb _ _ c.if2.false)
+returns-3 c = rw (le-ltb _ _ c.if-count-gt1016.false, eq-eqb _ _ c.if-distance-count.false)
 
 pub wrong_trailer_spec : {M : Type 1} → statement M
 wrong_trailer_spec = tie.close (tie.spec returns mul-if2 returns-2 returns-3)

@@ -10,53 +10,53 @@ use Rattle.segment.proofs.Answers.{copied}
 use Rattle.segment_call.proofs.put_cells.Statement.{statement}
 use Rattle.segment_call.proofs.put_cells.Tie as tie
 
-abbrev invariant-loop : tie.invariant-loop
+abbrev invariant-loop : tie.invariant-loop-i
 invariant-loop found count out₀ i₀ out i = (i ≤ count) × (length out ≡ length out₀) × (out ≡ take i found ++ drop i out₀)
 
-abbrev decreases-loop : tie.decreases-loop
+abbrev decreases-loop : tie.decreases-loop-i
 decreases-loop found count out₀ i₀ out i = count - i
 
-returns : tie.Need-returns invariant-loop decreases-loop
-returns c = let e = lt-ltb _ _ c.if1.true in (rw e refl, rw e refl)
+returns : tie.Need-returns-then-out-count invariant-loop decreases-loop
+returns c = let e = lt-ltb _ _ c.if-out-count.true in (rw e refl, rw e refl)
 
-loop-holds : tie.Need-loop-init invariant-loop decreases-loop
+loop-holds : tie.Need-loop-i-init invariant-loop decreases-loop
 loop-holds c = (omega arith, refl, refl)
 
-mul-out : tie.Need-overflow-mul-out invariant-loop decreases-loop
+mul-out : tie.Need-offset_bounds-found-i invariant-loop decreases-loop
 mul-out c = search rules
 
-shared-slice-read-out : tie.Need-shared-slice-read-out invariant-loop decreases-loop
-shared-slice-read-out c = omega (arith, c.before.before.before.before.requires.0)
+shared-slice-read-out : tie.Need-bounds-found-i invariant-loop decreases-loop
+shared-slice-read-out c = omega (arith, c.requires.0)
 
-mul-out-2 : tie.Need-overflow-mul-out-2 invariant-loop decreases-loop
+mul-out-2 : tie.Need-offset_bounds-out-i invariant-loop decreases-loop
 mul-out-2 c = search rules
 
-slice-write-out : tie.Need-slice-write-out invariant-loop decreases-loop
-slice-write-out c = let l = c.before.before.loop in omega (arith, l.invariant.1, c.before.before.before.if1.false)
+slice-write-out : tie.Need-bounds-out-i invariant-loop decreases-loop
+slice-write-out c = let l = c.loop-i in omega (arith, l.invariant.1, c.if-out-count.false)
 
-add-i : tie.Need-overflow-add-i invariant-loop decreases-loop
-add-i c = omega (arith, c.before.before.before.before.requires.1)
+add-i : tie.Need-overflow_add-i invariant-loop decreases-loop
+add-i c = omega (arith, c.requires.1)
 
-loop-less : tie.Need-loop-smaller invariant-loop decreases-loop
+loop-less : tie.Need-loop-i-smaller invariant-loop decreases-loop
 loop-less c = omega arith
 
-loop-again : tie.Need-loop-preserved invariant-loop decreases-loop
+loop-again : tie.Need-loop-i-preserved invariant-loop decreases-loop
 loop-again c =
-    let l = c.before.before.loop in
-    let h = c.before.before.before.before.requires in
-    (omega arith, simp length-set l.invariant.1, ap (λ o. set o l.i (get_or c.before.before.before.before.args.found.now l.i 0)) l.invariant.2 ∙ copy_more l.i _ _ (omega (arith, h.0)) (omega (arith, c.before.before.before.if1.false)))
+    let l = c.loop-i in
+    let h = c.requires in
+    (omega arith, simp length-set l.invariant.1, ap (λ o. set o l.i (get_or c.args.found.now l.i 0)) l.invariant.2 ∙ copy_more l.i _ _ (omega (arith, h.0)) (omega (arith, c.if-out-count.false)))
 
-cast-t13 : tie.Need-overflow-cast-t13 invariant-loop decreases-loop
-cast-t13 c = record { fits = omega (arith, c.before.before.before.requires.1) }
+cast-t13 : tie.Need-overflow_cast-result invariant-loop decreases-loop
+cast-t13 c = record { fits = omega (arith, c.requires.1) }
 
-same_length : tie.Need-same-length invariant-loop decreases-loop
-same_length c = c.before.loop.invariant.1
+same_length : tie.Need-shape_of-out invariant-loop decreases-loop
+same_length c = c.loop-i.invariant.1
 
-returns-2 : tie.Need-returns-2 invariant-loop decreases-loop
+returns-2 : tie.Need-returns invariant-loop decreases-loop
 returns-2 c =
-    let l = c.before.loop in
+    let l = c.loop-i in
     let s = c.before.before.before in
-    let e = le-ltb _ _ c.before.before.if1.false in
+    let e = le-ltb _ _ c.if-out-count.false in
     (rw e refl, rw e (copied s.args.count l.i s.args.found.now s.args.out.now s.requires.0 (omega arith) l.invariant.2))
 
 pub put_cells_spec : {M : Type 1} → statement M

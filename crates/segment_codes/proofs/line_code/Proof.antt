@@ -20,39 +20,39 @@ small v e = subst (λ n. n ≤ 3) (sym e) (omega (arith, byte≤ (lt_z v (pos 0)
 difference-requires : tie.Need-difference-requires
 difference-requires c κs = search rules
 
-cross-requires : tie.Need-cross-requires
-cross-requires c κs = let h = c.before.requires in (h.1, difference_bounded c.difference.ensures h.0 h.2)
+cross-requires : tie.Need-cross-w-requires
+cross-requires c κs = let h = c.requires in (h.1, difference_bounded c.difference.ensures h.0 h.2)
 
-sign-code-requires : tie.Need-sign-code-requires
+sign-code-requires : tie.Need-sign_code-requires
 sign-code-requires c κs = search rules
 
-sign-code-requires-2 : tie.Need-sign-code-requires-2
+sign-code-requires-2 : tie.Need-sign_code-requires-2
 sign-code-requires-2 c κs = search rules
 
-mul-result : tie.Need-overflow-mul-result
-mul-result c = record { fits = omega (arith, small _ c.sign-code2.ensures) }
+mul-result : tie.Need-overflow_mul-result
+mul-result c = record { fits = omega (arith, small _ c.sign_code-2.ensures) }
 
-add-result : tie.Need-overflow-add-result
-add-result c = record { fits = omega (arith, small _ c.before.before.sign-code.ensures, small _ c.sign-code2.ensures) }
+add-result : tie.Need-overflow_add-result
+add-result c = record { fits = omega (arith, small _ c.sign_code.ensures, small _ c.sign_code-2.ensures) }
 
-sign-code-requires-3 : tie.Need-sign-code-requires-3
+sign-code-requires-3 : tie.Need-sign_code-requires-3
 sign-code-requires-3 c κs = search rules
 
-mul-result-2 : tie.Need-overflow-mul-result-2
-mul-result-2 c = record { fits = omega (arith, small _ c.sign-code3.ensures) }
+mul-result-2 : tie.Need-overflow_mul-result-2
+mul-result-2 c = record { fits = omega (arith, small _ c.sign_code-3.ensures) }
 
-add-result-2 : tie.Need-overflow-add-result-2
-add-result-2 c = record { fits = omega (arith, small _ c.before.before.before.before.sign-code.ensures, small _ c.before.before.sign-code2.ensures, small _ c.sign-code3.ensures) }
+add-result-2 : tie.Need-overflow_add-result-2
+add-result-2 c = record { fits = omega (arith, small _ c.sign_code.ensures, small _ c.sign_code-2.ensures, small _ c.sign_code-3.ensures) }
 
 returns : tie.Need-returns
 unfolding line_code
 returns c =
-    let h = c.before.before.before.before.before.before.before.before.requires in
-    let g = c.before.before.before.before.before.before.before.difference.ensures in
-    let e = c.before.before.before.before.before.before.cross.ensures in
-    let r = c.before.before.before.before.before.before.cross.result in
+    let h = c.requires in
+    let g = c.difference.ensures in
+    let e = c.cross-w.ensures in
+    let r = c.cross-w.result in
     let z = product_bounded e h.1 (difference_bounded g h.0 h.2) in
-    (λ i. c.before.before.before.before.sign-code.ensures i + 4 * c.before.before.sign-code2.ensures i + 16 * c.sign-code3.ensures i) ∙
+    (λ i. c.sign_code.ensures i + 4 * c.sign_code-2.ensures i + 16 * c.sign_code-3.ensures i) ∙
     ((λ i. sign_code (kept r.x (le_trans z.x≤ (lit≤ tt)) i) + 4 * sign_code (kept r.y (le_trans z.y≤ (lit≤ tt)) i) + 16 * sign_code (kept r.z (le_trans z.z≤ (lit≤ tt)) i)) ∙
     ap (λ w. sign_code w.x + 4 * sign_code w.y + 16 * sign_code w.z) (e ∙ ap (cross_product _) g))
 

@@ -11,16 +11,16 @@ use Rattle.segment.specs.Inner.{sign_code}
 use Rattle.segment_codes.proofs.sign_code.Statement.{statement}
 use Rattle.segment_codes.proofs.sign_code.Tie as tie
 
-cast-result : tie.Need-overflow-cast-result
+cast-result : tie.Need-overflow_cast-result
 cast-result c = search rules
 
-cast-result-2 : tie.Need-overflow-cast-result-2
+cast-result-2 : tie.Need-overflow_cast-result-2
 cast-result-2 c = search rules
 
-mul-result : tie.Need-overflow-mul-result
+mul-result : tie.Need-overflow_mul-result
 mul-result c = let v = back w64 c.args.v in record { fits = omega (arith, byte≤ (lt_z (pos 0) v)) }
 
-add-result : tie.Need-overflow-add-result
+add-result : tie.Need-overflow_add-result
 add-result c = let v = back w64 c.args.v in record { fits = omega (arith, byte≤ (lt_z v (pos 0)), byte≤ (lt_z (pos 0) v)) }
 
 returns : tie.Need-returns

@@ -6,29 +6,29 @@ use Rattle.segment.proofs.Volumes.{volume≤, volumes_meet_is}
 use Rattle.segment_test.proofs.cell_touches.Statement.{statement}
 use Rattle.segment_test.proofs.cell_touches.Tie as tie
 
-positions-requires : tie.Need-positions-requires
+positions-requires : tie.Need-positions-s-requires
 positions-requires c κs = search rules
 
-volumes-at-requires : tie.Need-volumes-at-requires
-volumes-at-requires c κs = let h = c.before.before.requires in (read_in_range c.positions.ensures h.0, h.1)
+volumes-at-requires : tie.Need-volumes_at-requires
+volumes-at-requires c κs = let h = c.requires in (read_in_range c.positions-s.ensures h.0, h.1)
 
-volumes-at-requires-2 : tie.Need-volumes-at-requires-2
-volumes-at-requires-2 c κs = let h = c.before.before.before.requires in (read_in_range c.before.positions.ensures h.0, h.2)
+volumes-at-requires-2 : tie.Need-volumes_at-requires-2
+volumes-at-requires-2 c κs = let h = c.requires in (read_in_range c.positions-s.ensures h.0, h.2)
 
-volumes-meet-requires : tie.Need-volumes-meet-requires
+volumes-meet-requires : tie.Need-volumes_meet-requires
 volumes-meet-requires c κs =
     let s = c.before.before.before.before in
-    let e = c.before.before.positions.ensures in (
-      volume≤ _ _ s.args.a s.requires.0 s.requires.1 (c.before.volumes-at.ensures ∙ ap (λ t. volumes_at t s.args.a) e),
-      volume≤ _ _ s.args.b s.requires.0 s.requires.2 (c.volumes-at2.ensures ∙ ap (λ t. volumes_at t s.args.b) e),
+    let e = c.positions-s.ensures in (
+      volume≤ _ _ s.args.a s.requires.0 s.requires.1 (c.volumes_at.ensures ∙ ap (λ t. volumes_at t s.args.a) e),
+      volume≤ _ _ s.args.b s.requires.0 s.requires.2 (c.volumes_at-2.ensures ∙ ap (λ t. volumes_at t s.args.b) e),
     )
 
 returns : tie.Need-returns
 returns c =
     let s = c.before.before.before.before.before in
-    let e = c.before.before.before.positions.ensures in
-    c.volumes-meet.ensures ∙
-    volumes_meet_is _ _ s.args.a s.args.b s.requires.0 s.requires.1 s.requires.2 (c.before.before.volumes-at.ensures ∙ ap (λ t. volumes_at t s.args.a) e) (c.before.volumes-at2.ensures ∙ ap (λ t. volumes_at t s.args.b) e)
+    let e = c.positions-s.ensures in
+    c.volumes_meet.ensures ∙
+    volumes_meet_is _ _ s.args.a s.args.b s.requires.0 s.requires.1 s.requires.2 (c.volumes_at.ensures ∙ ap (λ t. volumes_at t s.args.a) e) (c.volumes_at-2.ensures ∙ ap (λ t. volumes_at t s.args.b) e)
 
 pub cell_touches_spec : {M : Type 1} → statement M
 cell_touches_spec =

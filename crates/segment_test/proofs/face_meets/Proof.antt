@@ -1,37 +1,38 @@
+use Rattle.std.proofs.lemmas.Bool.{not_from_false, not_from_true}
 use native.Mathlib.Omega.{arith}
 use Rattle.segment.proofs.Volumes.{itself≤, face_above, face_beyond, face_fails, face_last}
 use Rattle.segment_test.proofs.face_meets.Statement.{statement}
 use Rattle.segment_test.proofs.face_meets.Tie as tie
 
-returns : tie.Need-returns
-returns c = let s = c.before in let a = s.args in let h = s.requires in face_above a.p a.q h.0 h.1 a.a a.b c.if1.true
+returns : tie.Need-returns-then-p-ge0
+returns c = let s = c.before in let a = s.args in let h = s.requires in face_above a.p a.q h.0 h.1 a.a a.b c.if-p-ge0.true
 
-returns-2 : tie.Need-returns-2
-returns-2 c = let s = c.before.before in let a = s.args in let h = s.requires in face_beyond a.p a.q h.0 h.1 a.a a.b c.before.if1.false c.if2.true
+returns-2 : tie.Need-returns-then-q-lt0
+returns-2 c = let s = c.before.before in let a = s.args in let h = s.requires in face_beyond a.p a.q h.0 h.1 a.a a.b c.if-p-ge0.false c.if-q-lt0.true
 
-in-order-requires : tie.Need-in-order-requires
+in-order-requires : tie.Need-in_order-requires
 in-order-requires c κs = let s = c.before.before.before.before in let a = s.args in let h = s.requires in (itself≤ a.p h.0, itself≤ a.q h.1, h.2 3 (omega arith), h.3 3 (omega arith))
 
-returns-3 : tie.Need-returns-3
-returns-3 c = let s = c.before.before.before.before.before.before in let a = s.args in let h = s.requires in face_fails a.p a.q h.0 h.1 a.a a.b c.before.before.before.before.if2.false 3 c.before.in_order.ensures (omega arith) c.if3.true
+returns-3 : tie.Need-returns-then-not-in_order
+returns-3 c = let s = c.before.before.before.before.before.before in let a = s.args in let h = s.requires in face_fails a.p a.q h.0 h.1 a.a a.b c.if-q-lt0.false 3 c.in_order.ensures (omega arith) (not_from_false _ c.if-not-in_order.true)
 
-in-order-requires-2 : tie.Need-in-order-requires-2
+in-order-requires-2 : tie.Need-in_order-requires-2
 in-order-requires-2 c κs = let s = c.before.before.before.before.before.before.before.before in let a = s.args in let h = s.requires in (itself≤ a.p h.0, itself≤ a.q h.1, h.2 2 (omega arith), h.3 2 (omega arith))
 
-returns-4 : tie.Need-returns-4
-returns-4 c = let s = c.before.before.before.before.before.before.before.before.before.before in let a = s.args in let h = s.requires in face_fails a.p a.q h.0 h.1 a.a a.b c.before.before.before.before.before.before.before.before.if2.false 2 c.before.in-order2.ensures (omega arith) c.if4.true
+returns-4 : tie.Need-returns-then-not-in_order-2
+returns-4 c = let s = c.before.before.before.before.before.before.before.before.before.before in let a = s.args in let h = s.requires in face_fails a.p a.q h.0 h.1 a.a a.b c.if-q-lt0.false 2 c.in_order-2.ensures (omega arith) (not_from_false _ c.if-not-in_order-2.true)
 
-in-order-requires-3 : tie.Need-in-order-requires-3
+in-order-requires-3 : tie.Need-in_order-requires-3
 in-order-requires-3 c κs = let s = c.before.before.before.before.before.before.before.before.before.before.before.before in let a = s.args in let h = s.requires in (itself≤ a.p h.0, itself≤ a.q h.1, h.2 1 (omega arith), h.3 1 (omega arith))
 
-returns-5 : tie.Need-returns-5
-returns-5 c = let s = c.before.before.before.before.before.before.before.before.before.before.before.before.before.before in let a = s.args in let h = s.requires in face_fails a.p a.q h.0 h.1 a.a a.b c.before.before.before.before.before.before.before.before.before.before.before.before.if2.false 1 c.before.in-order3.ensures (omega arith) c.if5.true
+returns-5 : tie.Need-returns-then-not-in_order-3
+returns-5 c = let s = c.before.before.before.before.before.before.before.before.before.before.before.before.before.before in let a = s.args in let h = s.requires in face_fails a.p a.q h.0 h.1 a.a a.b c.if-q-lt0.false 1 c.in_order-3.ensures (omega arith) (not_from_false _ c.if-not-in_order-3.true)
 
-in-order-requires-4 : tie.Need-in-order-requires-4
+in-order-requires-4 : tie.Need-in_order-requires-4
 in-order-requires-4 c κs = let s = c.before.before.before.before.before.before.before.before.before.before.before.before.before.before.before.before in let a = s.args in let h = s.requires in (itself≤ a.p h.0, itself≤ a.q h.1, h.2 0 (omega arith), h.3 0 (omega arith))
 
-returns-6 : tie.Need-returns-6
-returns-6 c = let s = c.before.before.before.before.before.before.before.before.before.before.before.before.before.before.before.before.before in let a = s.args in let h = s.requires in face_last a.p a.q h.0 h.1 a.a a.b c.before.before.before.before.before.before.before.before.before.before.before.before.before.before.before.if2.false c.before.before.before.before.before.before.before.before.before.before.before.before.in_order.ensures c.before.before.before.before.before.before.before.before.before.before.before.if3.false c.before.before.before.before.before.before.before.before.in-order2.ensures c.before.before.before.before.before.before.before.if4.false c.before.before.before.before.in-order3.ensures c.before.before.before.if5.false c.in-order4.ensures
+returns-6 : tie.Need-returns
+returns-6 c = let s = c.before.before.before.before.before.before.before.before.before.before.before.before.before.before.before.before.before in let a = s.args in let h = s.requires in face_last a.p a.q h.0 h.1 a.a a.b c.if-q-lt0.false c.in_order.ensures (not_from_true _ c.if-not-in_order.false) c.in_order-2.ensures (not_from_true _ c.if-not-in_order-2.false) c.in_order-3.ensures (not_from_true _ c.if-not-in_order-3.false) c.in_order-4.ensures
 
 pub face_meets_spec : {M : Type 1} → statement M
 face_meets_spec =

@@ -3,41 +3,41 @@ use Rattle.segment.proofs.Volumes.{leaves_above, leaves_below, enters_above, ent
 use Rattle.segment_test.proofs.in_order.Statement.{statement}
 use Rattle.segment_test.proofs.in_order.Tie as tie
 
-returns : tie.Need-returns
-returns c = let a = c.before.args in leaves_above a.a a.b a.c a.d c.before.requires c.if1.true
+returns : tie.Need-returns-then-d-ge0
+returns c = let a = c.args in leaves_above a.a a.b a.c a.d c.requires c.if-d-ge0.true
 
-returns-2 : tie.Need-returns-2
-returns-2 c = let a = c.before.before.args in leaves_below a.a a.b a.c a.d c.before.before.requires c.if2.true
+returns-2 : tie.Need-returns-then-c-lt0
+returns-2 c = let a = c.args in leaves_below a.a a.b a.c a.d c.requires c.if-c-lt0.true
 
-returns-3 : tie.Need-returns-3
-returns-3 c = let a = c.before.before.before.args in enters_above a.a a.b a.c a.d c.before.before.before.requires c.if3.true
+returns-3 : tie.Need-returns-then-a-ge0
+returns-3 c = let a = c.args in enters_above a.a a.b a.c a.d c.requires c.if-a-ge0.true
 
-returns-4 : tie.Need-returns-4
-returns-4 c = let a = c.before.before.before.before.args in enters_below a.a a.b a.c a.d c.before.before.before.before.requires c.if4.true
+returns-4 : tie.Need-returns-then-b-lt0
+returns-4 c = let a = c.args in enters_below a.a a.b a.c a.d c.requires c.if-b-lt0.true
 
-sub-product-at-most : tie.Need-overflow-sub-product-at-most
-sub-product-at-most c = opposite_fits c.before.before.before.before.args.a c.before.before.before.before.requires.0
+sub-product-at-most : tie.Need-overflow_sub-a
+sub-product-at-most c = opposite_fits c.args.a c.requires.0
 
-cast-product-at-most : tie.Need-overflow-cast-product-at-most
-cast-product-at-most c = opposite_casts c.before.before.before.before.args.a c.before.before.before.before.requires.0 c.before.if3.false
+cast-product-at-most : tie.Need-overflow_cast-a
+cast-product-at-most c = opposite_casts c.args.a c.requires.0 c.if-a-ge0.false
 
-sub-product-at-most-2 : tie.Need-overflow-sub-product-at-most-2
-sub-product-at-most-2 c = opposite_fits c.before.before.before.before.args.d c.before.before.before.before.requires.3
+sub-product-at-most-2 : tie.Need-overflow_sub-d
+sub-product-at-most-2 c = opposite_fits c.args.d c.requires.3
 
-cast-product-at-most-2 : tie.Need-overflow-cast-product-at-most-2
-cast-product-at-most-2 c = opposite_casts c.before.before.before.before.args.d c.before.before.before.before.requires.3 c.before.before.before.if1.false
+cast-product-at-most-2 : tie.Need-overflow_cast-d
+cast-product-at-most-2 c = opposite_casts c.args.d c.requires.3 c.if-d-ge0.false
 
-cast-product-at-most-3 : tie.Need-overflow-cast-product-at-most-3
-cast-product-at-most-3 c = casts c.before.before.before.before.args.c c.before.before.before.before.requires.2 c.before.before.if2.false
+cast-product-at-most-3 : tie.Need-overflow_cast-c
+cast-product-at-most-3 c = casts c.args.c c.requires.2 c.if-c-lt0.false
 
-cast-product-at-most-4 : tie.Need-overflow-cast-product-at-most-4
-cast-product-at-most-4 c = casts c.before.before.before.before.args.b c.before.before.before.before.requires.1 c.if4.false
+cast-product-at-most-4 : tie.Need-overflow_cast-b
+cast-product-at-most-4 c = casts c.args.b c.requires.1 c.if-b-lt0.false
 
-product-at-most-requires : tie.Need-product-at-most-requires
-product-at-most-requires c κs = let a = c.before.before.before.before.args in let h = c.before.before.before.before.requires in (opposite≤ a.a h.0, opposite≤ a.d h.3, itself≤ a.c h.2, itself≤ a.b h.1)
+product-at-most-requires : tie.Need-product_at_most-requires
+product-at-most-requires c κs = let a = c.args in let h = c.requires in (opposite≤ a.a h.0, opposite≤ a.d h.3, itself≤ a.c h.2, itself≤ a.b h.1)
 
-returns-5 : tie.Need-returns-5
-returns-5 c = let a = c.before.before.before.before.before.args in c.product-at-most.ensures ∙ compared a.a a.b a.c a.d c.before.before.before.before.before.requires c.before.before.if3.false c.before.if4.false c.before.before.before.if2.false c.before.before.before.before.if1.false
+returns-5 : tie.Need-returns
+returns-5 c = let a = c.args in c.product_at_most.ensures ∙ compared a.a a.b a.c a.d c.requires c.if-a-ge0.false c.if-b-lt0.false c.if-c-lt0.false c.if-d-ge0.false
 
 pub in_order_spec : {M : Type 1} → statement M
 in_order_spec =

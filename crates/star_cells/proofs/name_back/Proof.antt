@@ -10,42 +10,42 @@ use Rattle.star.proofs.Around.{place<}
 use Rattle.star_cells.proofs.name_back.Statement.{statement}
 use Rattle.star_cells.proofs.name_back.Tie as tie
 
-small : (c : tie.After-place-of) → c.place_of_lem.result < 4
-small c = subst (λ k. k < 4) (sym c.place_of_lem.ensures) (place< _ _ _)
+small : (c : tie.After-place_of) → c.place_of.result < 4
+small c = subst (λ k. k < 4) (sym c.place_of.ensures) (place< _ _ _)
 
-returns : tie.Need-returns
+returns : tie.Need-returns-then-u-eq65535
 unfolding name_back
-returns c = rw (eq-eqb _ none c.if1.true)
+returns c = rw (eq-eqb _ none c.if-u-eq65535.true)
 
-mul_at : tie.Need-overflow-mul-at
+mul_at : tie.Need-overflow_mul-at
 mul_at c = search rules
 
-cast-place-of : tie.Need-overflow-cast-place-of
+cast-place-of : tie.Need-overflow_cast-c
 cast-place-of c = search rules
 
-place-of-requires : tie.Need-place-of-requires
-place-of-requires c κs = c.before.before.before.requires.0 c.before.if1.false
+place-of-requires : tie.Need-place_of-requires
+place-of-requires c κs = c.requires.0 c.if-u-eq65535.false
 
-add_at : tie.Need-overflow-add-at
-add_at c = omega (arith, small c, c.before.before.before.before.requires.0 c.before.before.if1.false)
+add_at : tie.Need-overflow_add-at
+add_at c = omega (arith, small c, c.requires.0 c.if-u-eq65535.false)
 
-cast-neighbours : tie.Need-overflow-cast-neighbours
+cast-neighbours : tie.Need-overflow_cast-neighbours
 cast-neighbours c = search rules
 
-mul-neighbours : tie.Need-overflow-mul-neighbours
-mul-neighbours c = omega (arith, small c, c.before.before.before.before.requires.0 c.before.before.if1.false)
+mul-neighbours : tie.Need-offset_bounds-neighbours-at
+mul-neighbours c = omega (arith, small c, c.requires.0 c.if-u-eq65535.false)
 
-slice-write-neighbours : tie.Need-slice-write-neighbours
-slice-write-neighbours c = omega (arith, small c, c.before.before.before.before.requires.0 c.before.before.if1.false)
+slice-write-neighbours : tie.Need-bounds-neighbours-at
+slice-write-neighbours c = omega (arith, small c, c.requires.0 c.if-u-eq65535.false)
 
-same_length : tie.Need-same-length
+same_length : tie.Need-shape_of-neighbours
 same_length c = search rules
 
-returns-2 : tie.Need-returns-2
+returns-2 : tie.Need-returns
 unfolding name_back
 returns-2 c =
-    let a = c.before.before.before.before.args in
-    rw (ne_eqb _ none c.before.before.if1.false) (ap (λ k. set a.neighbours.now (4 * a.u + k) a.slot) c.place_of_lem.ensures)
+    let a = c.args in
+    rw (ne_eqb _ none c.if-u-eq65535.false) (ap (λ k. set a.neighbours.now (4 * a.u + k) a.slot) c.place_of.ensures)
 
 pub name_back_spec : {M : Type 1} → statement M
 name_back_spec =

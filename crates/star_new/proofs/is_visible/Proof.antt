@@ -5,10 +5,10 @@ use Rattle.star.proofs.Codes.{bit_shift}
 use Rattle.star_new.proofs.is_visible.Statement.{statement}
 use Rattle.star_new.proofs.is_visible.Tie as tie
 
-cast-result : tie.Need-overflow-cast-result
+cast-result : tie.Need-overflow_cast-result
 cast-result c = search rules
 
-shr-result : tie.Need-overflow-shr-result
+shr-result : tie.Need-overflow_shr-result
 shr-result c = search rules
 
 returns : tie.Need-returns

@@ -6,21 +6,21 @@ use Rattle.star.proofs.Slots.{new_corner}
 use Rattle.star_new.proofs.new_cell.Statement.{statement}
 use Rattle.star_new.proofs.new_cell.Tie as tie
 
-four-at-requires : tie.Need-four-at-requires
+four-at-requires : tie.Need-four_at-v-requires
 four-at-requires c κs =
-    let p = c.before.before.before.before.before.before.requires in
+    let p = c.requires in
     has_corners p.0.standing _ (set_below _ _ _ p.1.held)
 
-cast-v : tie.Need-overflow-cast-v
+cast-v : tie.Need-overflow_cast-v
 cast-v c = search rules
 
-mul-v : tie.Need-overflow-mul-v
+mul-v : tie.Need-offset_bounds-v-k
 mul-v c = search rules
 
-array-write-v : tie.Need-array-write-v
+array-write-v : tie.Need-bounds-v-k
 array-write-v c = search rules
 
-new-neighbours-requires : tie.Need-new-neighbours-requires
+new-neighbours-requires : tie.Need-new_neighbours-u-requires
 new-neighbours-requires c κs = search rules
 
 returns : tie.Need-returns
@@ -28,9 +28,9 @@ returns c b =
     let s = c.before.before.before.before.before.before.before.before in
     record {
       corners_are = λ j j<.
-          ap (λ l. get_or (set l s.args.k s.args.np) j 0) c.before.four-at.ensures ∙
+          ap (λ l. get_or (set l s.args.k s.args.np) j 0) c.four_at-v.ensures ∙
           new_corner b s.args.np s.args.c s.args.k j s.requires.1.held s.requires.1.place< j<;
-      neighbours_are = c.new-neighbours.ensures b;
+      neighbours_are = c.new_neighbours-u.ensures b;
     }
 
 pub new_cell_spec : {M : Type 1} → statement M

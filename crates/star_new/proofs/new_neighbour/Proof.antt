@@ -8,27 +8,27 @@ use Rattle.star_new.proofs.new_neighbour.Tie as tie
 
 behind-requires : tie.Need-behind-requires
 behind-requires c κs =
-    let p = c.before.before.before.before.before.before.before.requires in
+    let p = c.requires in
     (has_neighbours p.0.standing _ (set_below _ _ _ p.1.held), p.2)
 
-returns : tie.Need-returns
+returns : tie.Need-returns-then-j-k
 returns c b =
-    let p = c.before.before.before.before.before.before.before.before.requires in
-    c.behind.ensures ∙ own_across b _ _ _ p.1 c.before.if1.true
+    let p = c.requires in
+    c.behind.ensures ∙ own_across b _ _ _ p.1 c.if-j-k.true
 
-turn-requires : tie.Need-turn-requires
+turn-requires : tie.Need-turn-g-requires
 turn-requires c κs = search rules
 
-new-number-requires : tie.Need-new-number-requires
+new-number-requires : tie.Need-new_number-requires
 new-number-requires c κs =
-    let p = c.before.before.before.before.before.before.before.before.requires in
-    let g = reached p.0 _ _ _ p.1 p.2 c.before.if1.false (state_of c.turn.result) (c.turn.ensures p.0.standing) in
+    let p = c.requires in
+    let g = reached p.0 _ _ _ p.1 p.2 c.if-j-k.false (state_of c.turn-g.result) (c.turn-g.ensures p.0.standing) in
     has_number p.0 _ _ g.held g.exit<
 
-returns-2 : tie.Need-returns-2
+returns-2 : tie.Need-returns
 returns-2 c b =
-    let p = c.before.before.before.before.before.before.before.before.before.requires in
-    c.new-number.ensures ∙ (reached b _ _ _ p.1 p.2 c.before.before.if1.false (state_of c.before.turn.result) (c.before.turn.ensures b.standing)).is
+    let p = c.requires in
+    c.new_number.ensures ∙ (reached b _ _ _ p.1 p.2 c.if-j-k.false (state_of c.turn-g.result) (c.turn-g.ensures b.standing)).is
 
 pub new_neighbour_spec : {M : Type 1} → statement M
 new_neighbour_spec =

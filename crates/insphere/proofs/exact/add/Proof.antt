@@ -33,31 +33,31 @@ two = var 0 ⊕ var 1
 abbrev sum : Expr
 sum = two ⊕ var 2 ⊕ var 3 ⊕ var 4
 
-add_low : tie.Need-overflow-add-low
+add_low : tie.Need-overflow_add-low
 add_low c = search rules
 
-add-low-2 : tie.Need-overflow-add-low-2
+add-low-2 : tie.Need-overflow_add-low-2
 add-low-2 c = search rules
 
-add-low-3 : tie.Need-overflow-add-low-3
+add-low-3 : tie.Need-overflow_add-low-3
 add-low-3 c = search rules
 
-abbrev start : tie.After-struct-told4 → tie.Start
+abbrev start : tie.After-struct_told-4-1 → tie.Start
 start c = c.before.before.before.before.before.before.before.before.before.before.before.before
 
-add-t8 : tie.Need-overflow-add-t8
+add-t8 : tie.Need-overflow_add-result
 add-t8 c = let s = c.before.before.before.before.before.before.before.before in safe w64 two (parts s) tops tt (within s)
 
-add-t9 : tie.Need-overflow-add-t9
+add-t9 : tie.Need-overflow_add-result-2
 add-t9 c = let s = c.before.before.before.before.before.before.before.before.before.before in safe w64 (two ⊕ var 2) (parts s) tops tt (within s)
 
-add-t10 : tie.Need-overflow-add-t10
+add-t10 : tie.Need-overflow_add-result-3
 add-t10 c = safe w64 (two ⊕ var 2 ⊕ var 3) (parts (start c)) tops tt (within (start c))
 
-cast-t11 : tie.Need-overflow-cast-t11
+cast-t11 : tie.Need-overflow_cast-result
 cast-t11 c = search rules
 
-add-t12 : tie.Need-overflow-add-t12
+add-t12 : tie.Need-overflow_add-result-4
 add-t12 c = safe w64 sum (parts (start c)) tops tt (within (start c))
 
 returns : tie.Need-returns

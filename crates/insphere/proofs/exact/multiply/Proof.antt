@@ -45,28 +45,28 @@ sum_small : (c : tie.Start) → nat_abs (upper c +ℤ pos (units c)) < 2 ^ 63
 unfolding scaled
 sum_small c = let h : nat_abs (upper c +ℤ pos (units c)) ≤ 7 * 2 ^ 58 = (scaled_within (w c) (l c) (within c) c.requires.distance≤).high≤ in omega (arith, h)
 
-part-requires : tie.Need-part-requires
+part-requires : tie.Need-part-w-requires
 part-requires c κs = search rules
 
-parted_is : (c : tie.After-part) → c.part.result ≡ w c.before.before
-parted_is c = c.part.ensures ∙ ap parted (back_64 c.before.before.args.x.volume (omega (arith, c.before.before.requires.volume≤)))
+parted_is : (c : tie.After-part-w) → c.part-w.result ≡ w c.before.before
+parted_is c = c.part-w.ensures ∙ ap parted (back_64 c.args.x.volume (omega (arith, c.requires.volume≤)))
 
-cast-low : tie.Need-overflow-cast-low
+cast-low : tie.Need-overflow_cast-low
 cast-low c = let s = c.before.before.before in rw (distance_read s) (tt, record { fits = omega (arith, s.requires.distance≤) })
 
-mul_low : tie.Need-overflow-mul-low
+mul_low : tie.Need-overflow_mul-low
 mul_low c =
     let s = c.before.before.before.before in
     rw (parted_is c.before.before, distance_read s)
     record { fits = omega (arith, low_product (w s) (l s) (within s) s.requires.distance≤) }
 
-abbrev start : tie.After-struct-told3 → tie.Start
+abbrev start : tie.After-struct_told-3-1 → tie.Start
 start c = c.before.before.before.before.before.before
 
-mul-t6 : tie.Need-overflow-mul-t6
+mul-t6 : tie.Need-overflow_mul-result
 mul-t6 c = let s = start c in rw (parted_is c.before.before.before.before, distance_read s, high_read s) (fits_64 (upper s) (upper_small s))
 
-cast-t7 : tie.Need-overflow-cast-t7
+cast-t7 : tie.Need-overflow_cast-result
 cast-t7 c = let s = start c in rw (parted_is c.before.before.before.before, distance_read s) (fits_64 (pos (units s)) (units_small s))
 
 upper_read : (c : tie.Start) → back w64 (upper c) ≡ upper c
@@ -75,7 +75,7 @@ upper_read c = back_64 (upper c) (upper_small c)
 units_read : (c : tie.Start) → back w64 (pos (units c)) ≡ pos (units c)
 units_read c = back_64 (pos (units c)) (units_small c)
 
-add-t8 : tie.Need-overflow-add-t8
+add-t8 : tie.Need-overflow_add-result
 add-t8 c =
     let s = start c in
     rw (parted_is c.before.before.before.before, distance_read s, high_read s, upper_read s, units_read s)

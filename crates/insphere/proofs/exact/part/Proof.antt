@@ -28,15 +28,15 @@ raised_is c = exact w64 raised (c.args.v ∷ []) (2 ^ 52 ∷ []) tt (c.requires,
 units_small : (c : tie.Start) → nat_abs (u c) / unit < 2 ^ 63
 units_small c = omega (arith, abs-+ c.args.v (pos (2 ^ 52)), c.requires)
 
-add-u : tie.Need-overflow-add-u
+add-u : tie.Need-overflow_add-u
 add-u c = safe w64 raised (c.args.v ∷ []) (2 ^ 52 ∷ []) tt (c.requires, tt)
 
-cast-u : tie.Need-overflow-cast-u
+cast-u : tie.Need-overflow_cast-u
 cast-u c =
     subst (λ z. T (non_neg z) × Fits w64 (nat_abs z)) (sym (raised_is c))
     (nonneg_casts (u c) (fits_64 (u c) (omega (arith, abs-+ c.args.v (pos (2 ^ 52)), c.requires))) (raised_nonneg c.args.v c.requires))
 
-cast-t3 : tie.Need-overflow-cast-t3
+cast-t3 : tie.Need-overflow_cast-result
 cast-t3 c = rw (raised_is c) (fits_64 (pos (nat_abs (u c) / unit)) (units_small c))
 
 -- of its units 2^25 are taken away
@@ -50,7 +50,7 @@ high_small c = let h : nat_abs (high c) ≤ 2 ^ 25 = (parted_within c.args.v c.r
 units_read : (c : tie.Start) → back w64 (pos (nat_abs (u c) / unit)) ≡ pos (nat_abs (u c) / unit)
 units_read c = back_64 (pos (nat_abs (u c) / unit)) (units_small c)
 
-sub-t5 : tie.Need-overflow-sub-t5
+sub-t5 : tie.Need-overflow_sub-result
 sub-t5 c = rw (raised_is c, units_read c) (fits_64 (high c) (high_small c))
 
 returns : tie.Need-returns
