@@ -27,7 +27,7 @@ use Rattle.insertion.specs.declared.Looked.TheVariants.{Refused as LookRefused}
 use Rattle.insertion.specs.Insertion.{node_refusal, fewer_bytes, insert_refusal}
 use Rattle.insertion.specs.Look.{look_refusal, look_unless, marked_refusal, begins_with, cavity_marks}
 use Rattle.insertion.specs.Inner.{refusal_with, AttemptLeaves, NodeLooked}
-use Rattle.insertion.proofs.Refusals.{first_three, left_to_node, look_refuses, look_passes, marked_refuses, marked_passes}
+use Rattle.insertion.proofs.Refusals.{first_three_lem, left_to_node, look_refuses, look_passes, marked_refuses, marked_passes}
 use Rattle.insertion.proofs.Leaving.{enough, same_work}
 use Rattle.corrections.specs.Corrections.{out_of_range, too_short}
 use Rattle.corrections.specs.Calls.{Leaves, with_length, with_range, with_table, with_node, left_unless, insert_with, marked_with, look_with, LookLeft, list_with}
@@ -123,7 +123,7 @@ module _ (m : Mesh) (t : Tables) (cs : List ℤ) (ws : List ℕ) {ws' : List ℕ
     unfolding insert_with
     insert_refused d =
         left m t cs ws c (fewer_bytes a m.used) e p a _
-        (first_tests m t cs (length ws) (fewer_bytes a m.used) own_tested d (λ j q n. first_three m t (length ws) p a q n)) d
+        (first_tests m t cs (length ws) (fewer_bytes a m.used) own_tested d (λ j q n. first_three_lem m t (length ws) p a q n)) d
 
     pub insert_kept : {marks : List ℕ} → k ≡ 0 → {g : Attempt} {t' : Tables} {cs' : List ℤ} → AttemptKeeps false marks m t cs (length ws') p a g t' cs' →
         Leaves (insert_with m t cs (length ws) p a) ws g.inserted t' cs' ws'
@@ -139,7 +139,7 @@ module _ (m : Mesh) (t : Tables) (cs : List ℤ) (ws : List ℕ) {ws' : List ℕ
     -- tests 1 to 3 refuse it
     three : (j : ℕ) → mesh_refusal m t (length ws) false ≡ j → j ≢ 0 → insert_refusal m t (length ws) p sphere ≡ j
     unfolding fewer_bytes
-    three j q n = first_three m t (length ws) p sphere q n
+    three j q n = first_three_lem m t (length ws) p sphere q n
 
     -- or let it pass
     onward : k ≡ 0 → insert_refusal m t (length ws) p sphere ≡ node_refusal m t (length ws) p sphere

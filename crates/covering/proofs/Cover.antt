@@ -74,7 +74,7 @@ module _ {X Y Z pc cc np n : ℕ} {t : Tables} (M : IsMesh X Y Z pc cc np n t) (
     where
       go : (x : Place) × Avoids (4 * n) (λ f x. form t x f) (λ f m p k r. form_mix t m p k r f) plane (λ κ. cut_mix (κ / 16) (κ / 4 % 4) (κ % 4)) tip (16 * n) x₀ x →
           (x : Place) × Start t n q x₀ x
-      go (x, A) = (x, record { generic = gen; near = λ c l i k h. A.keeps (4 * c + k) (omega arith) (i k h); below = A.keeps_Below })
+      go (x, A) = (x, record { generic = gen; near = λ c l i k h. A.keeps (4 * c + k) (omega arith) (i k h); below = A.keeps_below })
         where
           gen : Generic t n q (form t x)
           gen c i j l hi hj d z e =

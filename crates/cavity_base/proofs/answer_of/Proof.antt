@@ -51,13 +51,13 @@ enum-known-sphere-2 c = search rules
 
 returns-2 : tie.Need-returns-in-Inside
 returns-2 c =
-    let j = c.before.before.before in
+    let j = c.before in
     let s = start j in
-    answered_by_sphere _ _ _ s.args.answers.now j.if-handed.false _ (sym c.before.sphere.given.1 ∙ answer_here j)
+    answered_by_sphere _ _ _ s.args.answers.now j.if-handed.false _ (sym c.sphere-1.given.1 ∙ answer_here j)
 
 returns-3 : tie.Need-returns-in-Outside
 returns-3 c =
-    let j = c.before.before.before in
+    let j = c.before in
     let s = start j in
     answered_by_sphere _ _ _ s.args.answers.now j.if-handed.false _ (sym c.sphere-in-Outside-1.given.1 ∙ answer_here j)
 

@@ -52,10 +52,10 @@ loop-again c =
     let l = f.loop-c in (
       omega arith,
       ⊎_elim
-          (λ w. scanned_same w.8 w.9 w.10 w.3.ensures)
-          (λ w. scanned_same w.1 w.2 w.3 (scan_past p.0.mesh _ p.0.position l.invariant.1
-          (may_not_hold _ _ _ _ (solid p.0.mesh) _ (omega arith) f.four_at.ensures _ _ p.1 _ (sym c.may_hold.ensures ∙ w.0.left))))
-          c.if-may_hold.branch,
+          (λ w. scanned_same w.state-is w.list-is w.g-is w.try_base-g.ensures)
+          (λ w. scanned_same w.state-is w.list-is w.g-is (scan_past p.0.mesh _ p.0.position l.invariant.1
+          (may_not_hold _ _ _ _ (solid p.0.mesh) _ (omega arith) f.four_at.ensures _ _ p.1 _ (sym c.may_hold.ensures ∙ w.if-may_hold.false))))
+          c.if-may_hold.branch-raw,
     )
 
 same_length : tie.Need-shape_of-state invariant-loop decreases-loop

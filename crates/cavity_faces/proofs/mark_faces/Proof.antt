@@ -79,7 +79,7 @@ returns c =
     let l = c.loop-i in
     let e : l.i ≡ 4 = omega arith in
     let a = c.args in
-    l.invariant.1 ∙ ap (λ i. with_faces i a.exposed.now a.t2 a.t3) e
+    l.invariant.1 ∙ ap (λ i. with_faces i a.exposed.now a.k a.v) e
 
 pub mark_faces_spec : {M : Type 1} → statement M
 mark_faces_spec =

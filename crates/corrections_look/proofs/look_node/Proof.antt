@@ -58,7 +58,7 @@ report-requires c κs =
     report_asks ((found_at e).find-found.ensures.starable e.if-refusal-ne0.false)
 
 slice-aggregate-write-marks : tie.Need-slice_bounds-write_marks-end
-slice-aggregate-write-marks c = sym (found_at c.before.before.before.before).find-found.auto.1.1.1.1.1.1.0
+slice-aggregate-write-marks c = sym (found_at c.before.before.before.before).find-found.auto.state
 
 write-marks-requires : tie.Need-write_marks-requires
 write-marks-requires c κs =

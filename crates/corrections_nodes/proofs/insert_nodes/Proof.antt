@@ -65,21 +65,21 @@ cast-t51 : tie.Need-overflow_cast-result invariant-loop decreases-loop
 cast-t51 c = omega (arith, place< c.loop-i.invariant.1)
 
 same_length : tie.Need-shape_of-points-in_default invariant-loop decreases-loop
-same_length c = c.attempt_node-attempt.auto.1.0 ∙ c.loop-i.invariant.1.points_long
+same_length c = c.attempt_node-attempt.auto.points ∙ c.loop-i.invariant.1.points_long
 
 same-length-2 : tie.Need-shape_of-corners-in_default invariant-loop decreases-loop
-same-length-2 c = c.attempt_node-attempt.auto.1.1.0 ∙ c.loop-i.invariant.1.corners_long
+same-length-2 c = c.attempt_node-attempt.auto.corners ∙ c.loop-i.invariant.1.corners_long
 
 same-length-3 : tie.Need-shape_of-neighbours-in_default invariant-loop decreases-loop
-same-length-3 c = c.attempt_node-attempt.auto.1.1.1.0 ∙ c.loop-i.invariant.1.neighbours_long
+same-length-3 c = c.attempt_node-attempt.auto.neighbours ∙ c.loop-i.invariant.1.neighbours_long
 
 same-length-4 : tie.Need-shape_of-corrections-in_default invariant-loop decreases-loop
-same-length-4 c = c.attempt_node-attempt.auto.1.1.1.1.0 ∙ c.loop-i.invariant.1.corrections_long
+same-length-4 c = c.attempt_node-attempt.auto.corrections ∙ c.loop-i.invariant.1.corrections_long
 
 returns : tie.Need-returns-in_default invariant-loop decreases-loop
 returns c =
     let L = node_read c.point_at.ensures c.attempt_node-attempt.ensures.0 in
-    stops_here c.loop-i.invariant.1 L (omega (arith, c.loop-i-test.true)) c.enum_told.given.1
+    stops_here c.loop-i.invariant.1 L (omega (arith, c.loop-i-test.true)) c.enum_told-1.given.1
 
 add-i : tie.Need-overflow_add-i invariant-loop decreases-loop
 add-i c = omega (arith, place< c.loop-i.invariant.1)
@@ -93,7 +93,7 @@ loop-again c =
     let v = c.loop-i.invariant in
     let a = c.attempt_node-attempt in
     let L = node_read c.point_at.ensures a.ensures.0 in
-    let q = c.before.answer.given.1 in (
+    let q = c.answer-1.given.1 in (
       omega (arith, more),
       one_more v.1 L q (omega (arith, more)) a.auto.1.0 a.auto.1.1.0 a.auto.1.1.1.0,
       scratch_next v.1 L q a.ensures.1,

@@ -5,7 +5,7 @@ check-requires : tie.Need-check-requires
 check-requires c κs = tt
 
 same_length : tie.Need-shape_of-work
-same_length c = c.check.auto.1.1.1.1.0
+same_length c = c.check.auto.work
 
 returns : tie.Need-returns
 returns c = c.check.ensures

@@ -9,10 +9,10 @@ counted-requires : tie.Need-counted-requires
 counted-requires c κs = tt
 
 same_length : tie.Need-shape_of-work
-same_length c = c.segment_cells.auto.1.1.1.1.0
+same_length c = c.segment_cells.auto.work
 
 same-length-2 : tie.Need-shape_of-cells
-same-length-2 c = c.segment_cells.auto.1.1.1.1.1.1.1.0
+same-length-2 c = c.segment_cells.auto.out
 
 returns : tie.Need-returns
 returns c = lists_cells c.segment_cells.ensures c.counted.ensures

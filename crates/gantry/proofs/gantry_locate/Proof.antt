@@ -10,7 +10,7 @@ located-requires : tie.Need-located-requires
 located-requires c κs = tt
 
 same_length : tie.Need-shape_of-work
-same_length c = c.locate.auto.1.1.1.1.0
+same_length c = c.locate.auto.work
 
 returns : tie.Need-returns
 returns c = record { answer = c.located.ensures ∙ ap located_of c.locate.ensures.0; work = c.locate.ensures.1 }

@@ -9,7 +9,7 @@ written-requires : tie.Need-written-requires
 written-requires c κs = tt
 
 same_length : tie.Need-shape_of-out
-same_length c = c.merge.auto.1.1.0
+same_length c = c.merge.auto.out
 
 returns : tie.Need-returns
 returns c = merges c.merge.ensures c.written.ensures

@@ -9,7 +9,7 @@ read-requires : tie.Need-read-requires
 read-requires c κs = tt
 
 same_length : tie.Need-shape_of-nodes
-same_length c = c.read_nodes.auto.1.0
+same_length c = c.read_nodes.auto.nodes
 
 returns : tie.Need-returns
 returns c = reads c.read_nodes.ensures c.read.ensures

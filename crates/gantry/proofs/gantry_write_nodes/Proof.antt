@@ -9,10 +9,10 @@ written-requires : tie.Need-written-requires
 written-requires c κs = tt
 
 same_length : tie.Need-shape_of-work
-same_length c = c.write_nodes.auto.1.1.1.1.0
+same_length c = c.write_nodes.auto.work
 
 same-length-2 : tie.Need-shape_of-out
-same-length-2 c = c.write_nodes.auto.1.1.1.1.1.0
+same-length-2 c = c.write_nodes.auto.out
 
 returns : tie.Need-returns
 returns c = writes c.write_nodes.ensures c.written.ensures

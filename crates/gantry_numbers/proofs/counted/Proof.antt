@@ -12,7 +12,7 @@ enum-known-answer-2 c = search rules
 
 returns : tie.Need-returns-in-Count
 unfolding counted_of
-returns c = sym (ap counted_of c.before.answer.given.1)
+returns c = sym (ap counted_of c.answer-1.given.1)
 
 returns-2 : tie.Need-returns-in-Refused
 unfolding counted_of

@@ -13,7 +13,7 @@ enum-known-answer-2 c = search rules
 
 returns : tie.Need-returns-in-Accepted
 unfolding inserted_of
-returns c = sym (ap (inserted_of c.args.mesh) c.before.answer.given.1)
+returns c = sym (ap (inserted_of c.args.mesh) c.answer-1.given.1)
 
 returns-2 : tie.Need-returns-in-Refused
 unfolding inserted_of of_bits

@@ -15,7 +15,7 @@ enum-known-answer-3 c = search rules
 
 returns : tie.Need-returns-in-Ended
 unfolding listed_of
-returns c = sym (ap (listed_of c.args.mesh) c.before.answer.given.1)
+returns c = sym (ap (listed_of c.args.mesh) c.answer-1.given.1)
 
 returns-2 : tie.Need-returns-in-Stopped
 unfolding listed_of

@@ -13,7 +13,7 @@ enum-known-answer-2 c = search rules
 
 returns : tie.Need-returns-in-Reported
 unfolding looked_of
-returns c = sym (ap looked_of c.before.answer.given.1)
+returns c = sym (ap looked_of c.answer-1.given.1)
 
 returns-2 : tie.Need-returns-in-Refused
 unfolding looked_of of_bits

@@ -12,7 +12,7 @@ enum-known-answer-2 c = search rules
 
 returns : tie.Need-returns-in-Nodes
 unfolding read_of
-returns c = sym (ap read_of c.before.answer.given.1)
+returns c = sym (ap read_of c.answer-1.given.1)
 
 returns-2 : tie.Need-returns-in-Refused
 unfolding read_of

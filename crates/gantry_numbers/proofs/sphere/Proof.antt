@@ -12,7 +12,7 @@ enum-known-answer-2 c = search rules
 
 returns : tie.Need-returns-in-Inside
 unfolding sphere_of
-returns c = sym (ap sphere_of c.before.answer.given.1)
+returns c = sym (ap sphere_of c.answer-1.given.1)
 
 returns-2 : tie.Need-returns-in-Outside
 unfolding sphere_of

@@ -15,7 +15,7 @@ no-mesh-requires c κs = search rules
 
 returns : tie.Need-returns-in-Accepted
 unfolding started_of
-returns c = sym (ap started_of c.before.answer.given.1)
+returns c = sym (ap started_of c.answer-1.given.1)
 
 returns-2 : tie.Need-returns-in-Refused
 unfolding started_of

@@ -16,7 +16,7 @@ enum-known-answer-2 c = search rules
 
 returns : tie.Need-returns-in-Answered
 unfolding tested_of
-returns c = c.sphere.ensures ∙ sym (ap tested_of c.before.before.answer.given.1)
+returns c = c.sphere.ensures ∙ sym (ap tested_of c.answer-1.given.1)
 
 returns-2 : tie.Need-returns-in-Refused
 unfolding tested_of of_bits

@@ -77,7 +77,7 @@ returns-3 c =
     let r = c.before.before.before.before in
     let H = c.find_cavity-extent.ensures in
     last_test A (relisted H.0 r.star_room.ensures.1) c.if-extent-eq0.false r.star_room.ensures.0 r.star_room.ensures.2 r.star_room.ensures.3
-    (r.star_room.auto.1.1.1.1.1.1.1.1.0 ∙ s.1.ranks) (stamp_out s.0 H.1)
+    (r.star_room.auto.ranks ∙ s.1.ranks) (stamp_out s.0 H.1)
 
 pub find_spec : {M : Type 1} → statement M
 find_spec =

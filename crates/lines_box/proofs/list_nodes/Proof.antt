@@ -34,7 +34,7 @@ list-started-requires c κs =
     let f = c.start-answer in
     let k = long_enough t zeros (omega (arith, length-replicate 3072 (pos 0))) in
     let S = start_without a.x a.y a.z t zeros a.work.now k f.ensures in
-    let e = c.before.before.before.before.before.before.before.answer.given.1 in
+    let e = c.answer-1.given.1 in
     (from_start S e, s.requires, long_enough _ _ (omega (arith, f.auto.1.1.1.1.1.1.1.0, length-replicate 3072 (pos 0))), start_in_range a.x a.y a.z t zeros a.work.now k f.ensures e)
 
 enum-known-answer-2 : tie.Need-enum_known-answer-in-Refused-1
@@ -66,7 +66,7 @@ returns c =
     let f = c.start-answer in
     let k = long_enough t zeros (omega (arith, length-replicate 3072 (pos 0))) in
     let S = start_without a.x a.y a.z t zeros a.work.now k f.ensures in
-    reads_as c.list_started.ensures (accepted_text S c.before.before.before.before.before.before.before.before.before.before.before.before.before.before.before.before.before.before.before.answer.given.1 a.nodes.now)
+    reads_as c.list_started.ensures (accepted_text S c.answer-1.given.1 a.nodes.now)
 
 same-length-6 : tie.Need-shape_of-points-in-Refused
 same-length-6 c = search rules

@@ -11,10 +11,10 @@ use Rattle.lines.specs.Listing.{corner_words}
 use Rattle.lines.proofs.Putting.{Concatenating, none_written, next_fits, written_long, one_written, all_written}
 
 abbrev invariant-loop : tie.invariant-loop-i
-invariant-loop corners cell out₀ at first next₀ i₀ t8 out next i = Concatenating (λ i. 32 ∷ decimal (get_or corners (4 * cell + i) 0)) 4 out₀ at i next out
+invariant-loop corners cell out₀ at first next₀ i₀ out next i = Concatenating (λ i. 32 ∷ decimal (get_or corners (4 * cell + i) 0)) 4 out₀ at i next out
 
 abbrev decreases-loop : tie.decreases-loop-i
-decreases-loop corners cell out₀ at first next₀ i₀ t8 out next i = 4 - i
+decreases-loop corners cell out₀ at first next₀ i₀ out next i = 4 - i
 
 mul-first : tie.Need-overflow_mul-first invariant-loop decreases-loop
 mul-first c = omega (arith, c.requires.0.few)

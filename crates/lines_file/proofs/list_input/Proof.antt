@@ -12,7 +12,7 @@ write-refused-requires : tie.Need-write_refused-requires
 write-refused-requires c κs = search rules
 
 same_length : tie.Need-shape_of-out-then-file-gt65536
-same_length c = c.write_refused.auto.1.0
+same_length c = c.write_refused.auto.out
 
 returns : tie.Need-returns-then-file-gt65536
 returns c = reads_as c.write_refused.ensures (over_limit _ c.if-file-gt65536.true)
@@ -36,7 +36,7 @@ list-file-requires : tie.Need-list_file-requires
 list-file-requires c κs = c.requires
 
 same-length-2 : tie.Need-shape_of-out
-same-length-2 c = c.list_file.auto.1.1.1.1.1.1.0
+same-length-2 c = c.list_file.auto.out
 
 returns-2 : tie.Need-returns
 unfolding room

@@ -8,7 +8,7 @@ enum-known-answer : tie.Need-enum_known-answer
 enum-known-answer c = search rules
 
 write-mesh-requires : tie.Need-write_mesh-requires
-write-mesh-requires c κs = ended_printable c.args.answer c.requires.0 c.requires.1 c.before.before.answer.given.1 c.requires.2
+write-mesh-requires c κs = ended_printable c.args.answer c.requires.0 c.requires.1 c.answer-1.given.1 c.requires.2
 
 enum-known-answer-2 : tie.Need-enum_known-answer-in-Stopped-1
 enum-known-answer-2 c = search rules
@@ -29,7 +29,7 @@ same_length : tie.Need-shape_of-out-in-Ended
 same_length c = search rules
 
 returns : tie.Need-returns-in-Ended
-returns c = reads_as c.write_mesh.ensures (ended_text c.args.answer c.requires.0 c.requires.1 c.before.before.before.before.before.answer.given.1)
+returns c = reads_as c.write_mesh.ensures (ended_text c.args.answer c.requires.0 c.requires.1 c.answer-1.given.1)
 
 same-length-2 : tie.Need-shape_of-out-in-Stopped
 same-length-2 c = search rules

@@ -12,7 +12,7 @@ copy-listing-requires : tie.Need-copy_listing-requires
 copy-listing-requires c κs = subst (λ n. 409600 ≤ n) (sym (length-replicate {A = ℕ} 409600 0)) (omega arith)
 
 same_length : tie.Need-shape_of-out
-same_length c = c.copy_listing.auto.1.1.0
+same_length c = c.copy_listing.auto.out
 
 returns : tie.Need-returns
 returns c = c.copy_listing.ensures

@@ -23,7 +23,7 @@ lent c = let a = (start c).args in tables a.points.now a.corners.now a.neighbour
 
 refusal : (c : tie.After-mesh_refusal-refusal) → let a = (start c).args in
     c.mesh_refusal-refusal.result ≡ mesh_refusal a.mesh (lent c) (length a.work.now) false
-refusal c = c.mesh_refusal-refusal.ensures ∙ ap (λ w. mesh_refusal (start c).args.mesh (lent c) w false) c.clear.auto.0
+refusal c = c.mesh_refusal-refusal.ensures ∙ ap (λ w. mesh_refusal (start c).args.mesh (lent c) w false) c.clear.auto.s
 
 none : (c : tie.Else-refusal-ne0) → let a = (start c.before).args in mesh_refusal a.mesh (lent c.before) (length a.work.now) false ≡ 0
 none c = sym (refusal c.before) ∙ c.if-refusal-ne0.false

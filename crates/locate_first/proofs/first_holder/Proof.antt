@@ -78,13 +78,13 @@ loop-again c =
     let l = f.loop-c in (
       omega arith,
       ⊎_elim
-          (λ w. subst (CandidateAfter _ _ _ _) (sym (w.4 ∙ w.3.ensures))
-          (candidate_earlier _ _ _ _ p.0 _ (omega arith) f.four_at-k.ensures _ l.invariant.1 (sym (w.1.ensures ∙ is_held c.before w.0.taken) ∙ w.2.taken)))
+          (λ w. subst (CandidateAfter _ _ _ _) (sym (w.first-is ∙ w.earlier-first.ensures))
+          (candidate_earlier _ _ _ _ p.0 _ (omega arith) f.four_at-k.ensures _ l.invariant.1 (sym (w.cell_holds.ensures ∙ is_held c.before w.if-may_hold.true) ∙ w.if-cell_holds.true)))
           (⊎_elim
-          (λ w. subst (CandidateAfter _ _ _ _) (sym w.3) (candidate_more _ _ _ _ l.invariant.1 (sym (w.1.ensures ∙ is_held c.before w.0.taken) ∙ w.2.left)))
-          (λ w. subst (CandidateAfter _ _ _ _) (sym w.1) (candidate_more _ _ _ _ l.invariant.1
-          (may_not_hold _ _ _ _ p.0 _ (omega arith) f.four_at-k.ensures _ _ f.side_codes-codes.ensures [] (sym c.may_hold.ensures ∙ w.0.left)))))
-          c.if-may_hold.branch,
+          (λ w. subst (CandidateAfter _ _ _ _) (sym w.first-is) (candidate_more _ _ _ _ l.invariant.1 (sym (w.cell_holds.ensures ∙ is_held c.before w.if-may_hold.true) ∙ w.if-cell_holds.false)))
+          (λ w. subst (CandidateAfter _ _ _ _) (sym w.first-is) (candidate_more _ _ _ _ l.invariant.1
+          (may_not_hold _ _ _ _ p.0 _ (omega arith) f.four_at-k.ensures _ _ f.side_codes-codes.ensures [] (sym c.may_hold.ensures ∙ w.if-may_hold.false)))))
+          c.if-may_hold.branch-raw,
     )
 
 returns : tie.Need-returns invariant-loop decreases-loop

@@ -15,8 +15,8 @@ enum-known-answer c = search rules
 read-second-requires : tie.Need-read_second-requires
 read-second-requires c κs =
     let s = c.before.before.before.before.before.before.before.before.before.before.before in
-    let q = accepted_read s.args.first.now _ (omega (arith, s.requires)) (read_as c.read_nodes-answer.ensures c.before.before.answer.given.1) in
-    (omega (arith, q.few, ap (λ (h : Header). h.count) q.head), omega (arith, s.requires, c.read_nodes-answer.auto.1.0))
+    let q = accepted_read s.args.first.now _ (omega (arith, s.requires)) (read_as c.read_nodes-answer.ensures c.answer-1.given.1) in
+    (omega (arith, q.few, ap (λ (h : Header). h.count) q.head), omega (arith, s.requires, c.read_nodes-answer.auto.nodes))
 
 enum-known-answer-2 : tie.Need-enum_known-answer-in-Refused-1
 enum-known-answer-2 c = search rules
@@ -27,7 +27,7 @@ same_length c = search rules
 returns : tie.Need-returns-in-Nodes
 returns c =
     let s = c.before.before.before.before.before.before.before.before.before.before.before.before.before.before in
-    both_read s.args.first.now s.args.second.now s.requires (read_as c.read_nodes-answer.ensures c.before.before.before.before.before.answer.given.1) c.read_second.result _ c.read_second.ensures
+    both_read s.args.first.now s.args.second.now s.requires (read_as c.read_nodes-answer.ensures c.answer-1.given.1) c.read_second.result _ c.read_second.ensures
 
 same-length-2 : tie.Need-shape_of-nodes-in-Refused
 same-length-2 c = search rules

@@ -48,13 +48,13 @@ same_length c = search rules
 returns : tie.Need-returns-then-not-same_sides
 returns c =
     let s = c.before.before.before.before.before.before.before.before.before.before.before.before in
-    let R = read_as c.read_nodes-answer.ensures c.before.before.before.answer.given.1 in
+    let R = read_as c.read_nodes-answer.ensures c.answer-1.given.1 in
     second_sides s.args.head s.args.second.now s.args.nodes.now (part_long s) R s.args.nodes.now (test_failed c.same_sides.ensures (not_from_false _ c.if-not-same_sides.true))
 
 add-t16 : tie.Need-overflow_add-result
 add-t16 c =
     let s = c.before.before.before.before.before.before.before.before.before.before.before.before.before.before in
-    let R = read_as c.read_nodes-answer.ensures c.before.before.before.before.before.answer.given.1 in
+    let R = read_as c.read_nodes-answer.ensures c.answer-1.given.1 in
     let q = accepted_read s.args.second.now _ (part_long s) R in
     omega (arith, q.few, ap (λ (h : Header). h.count) q.head)
 
@@ -68,7 +68,7 @@ returns-2 : tie.Need-returns-else-not-same_sides
 unfolding with_count
 returns-2 c =
     let s = c.before.before.before.before.before.before.before.before.before.before.before.before.before.before in
-    let R = read_as c.read_nodes-answer.ensures c.before.before.before.before.before.answer.given.1 in
+    let R = read_as c.read_nodes-answer.ensures c.answer-1.given.1 in
     second_read s.args.head s.args.second.now s.args.nodes.now (part_long s) R (test_passed c.same_sides.ensures (not_from_true _ c.if-not-same_sides.false)) refl refl
 
 same-length-3 : tie.Need-shape_of-nodes-in-Refused

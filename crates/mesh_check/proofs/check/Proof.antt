@@ -15,7 +15,7 @@ same_length c = search rules
 
 returns : tie.Need-returns
 returns c = let cleared = c.clear in
-    (c.is_mesh.ensures ∙ ap (is_mesh _ _) cleared.auto.0, cleared.ensures)
+    (c.is_mesh.ensures ∙ ap (is_mesh _ _) cleared.auto.s, cleared.ensures)
 
 pub check_spec : {M : Type 1} → statement M
 check_spec = tie.close (tie.spec clear-requires is-mesh-requires same_length returns)

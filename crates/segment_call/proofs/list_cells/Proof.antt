@@ -103,13 +103,13 @@ loop-again c =
     let e = f.four_at-k.ensures in (
       omega arith,
       ⊎_elim
-          (λ w. listing_as _ _ _ _ (listing_more _ _ _ _ L (sym (w.4.ensures ∙ test_is c.before w.0.taken) ∙ w.5.taken) (omega (arith, s.requires.3))) w.7 w.6)
+          (λ w. listing_as _ _ _ _ (listing_more _ _ _ _ L (sym (w.cell_touches.ensures ∙ test_is c.before w.if-may_hold.true) ∙ w.if-cell_touches.true) (omega (arith, s.requires.3))) w.count-is w.found-is)
           (⊎_elim
-          (λ w. listing_as _ _ _ _ (listing_same _ _ _ _ L (sym (w.4.ensures ∙ test_is c.before w.0.taken) ∙ w.5.left)) w.7 w.6)
+          (λ w. listing_as _ _ _ _ (listing_same _ _ _ _ L (sym (w.cell_touches.ensures ∙ test_is c.before w.if-may_hold.true) ∙ w.if-cell_touches.false)) w.count-is w.found-is)
           (⊎_elim
-          (λ w. listing_as _ _ _ _ (listing_same _ _ _ _ L (range_out _ _ [] _ _ S _ (omega arith) a.a a.b e f.range_codes-range.ensures (sym w.2.ensures ∙ w.3.left))) w.5 w.4)
-          (λ w. listing_as _ _ _ _ (listing_same _ _ _ _ L (line_out _ _ [] _ _ S _ (omega arith) a.a a.b e f.line_codes-line.ensures (sym c.may_hold.ensures ∙ w.0.left))) w.2 w.1)))
-          c.if-may_hold.branch,
+          (λ w. listing_as _ _ _ _ (listing_same _ _ _ _ L (range_out _ _ [] _ _ S _ (omega arith) a.a a.b e f.range_codes-range.ensures (sym w.may_hold-then-may_hold.ensures ∙ w.if-may_hold-2.false))) w.count-is w.found-is)
+          (λ w. listing_as _ _ _ _ (listing_same _ _ _ _ L (line_out _ _ [] _ _ S _ (omega arith) a.a a.b e f.line_codes-line.ensures (sym c.may_hold.ensures ∙ w.if-may_hold.false))) w.count-is w.found-is)))
+          c.if-may_hold.branch-raw,
     )
 
 same_length : tie.Need-shape_of-found invariant-loop decreases-loop

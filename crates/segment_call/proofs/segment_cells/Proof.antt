@@ -70,7 +70,7 @@ list-cells-requires : tie.Need-list_cells-count-requires
 list-cells-requires c κs =
     let r = c.before.before.before.before.before.before.before.before in
     let p = passed _ _ _ false (none c.before.before.before.before.before.before.before) in
-    (solid _ _ _ _ _ p, in_range_lem _ _ _ p (first_inside c.before.before.before.before.before), in_range_lem _ _ _ p (second_inside c.before.before.before), subst (λ n. (start r).args.mesh.used ≤ n) (sym r.clear.auto.0) (work_room _ _ _ p))
+    (solid _ _ _ _ _ p, in_range_lem _ _ _ p (first_inside c.before.before.before.before.before), in_range_lem _ _ _ p (second_inside c.before.before.before), subst (λ n. (start r).args.mesh.used ≤ n) (sym r.clear.auto.s) (work_room _ _ _ p))
 
 put-cells-requires : tie.Need-put_cells-answer-requires
 put-cells-requires c κs =
@@ -79,7 +79,7 @@ put-cells-requires c κs =
     let p = passed _ _ _ false (none c.before.before.before.before.before.before.before.before.before.before.before.before) in
     let L = c.before.before.before.before in
     let few : L.list_cells-count.result ≤ a.mesh.used = subst (λ n. n ≤ a.mesh.used) (sym L.list_cells-count.ensures.0) (cells_few _ _ a.a a.b) in (
-      subst (λ n. L.list_cells-count.result ≤ n) (sym (L.list_cells-count.auto.1.1.1.1.1.1.0 ∙ r.clear.auto.0)) (omega (arith, few, work_room _ _ _ p)),
+      subst (λ n. L.list_cells-count.result ≤ n) (sym (L.list_cells-count.auto.found ∙ r.clear.auto.s)) (omega (arith, few, work_room _ _ _ p)),
       omega (arith, few, (solid _ _ _ _ _ p).celled.cells_few),
     )
 
@@ -101,7 +101,7 @@ returns-4 c =
     let e = bare_cells a.points.now a.corners.now a.neighbours.now a.mesh.used a.a a.b in
     listed a.mesh (lent r) a.work.now a.a a.b a.out.now r.clear.ensures (none c.before.before.before.before.before.before.before.before.before.before.before.before.before.before.before.before.before.before.before) (first_inside c.before.before.before.before.before.before.before.before.before.before.before.before.before.before.before.before.before) (second_inside c.before.before.before.before.before.before.before.before.before.before.before.before.before.before.before)
     (L.list_cells-count.ensures.0 ∙ ap length e) (L.list_cells-count.ensures.1 ∙ ap (λ l. over l r.clear.new.s) e)
-    c.put_cells-answer.ensures.0 c.put_cells-answer.ensures.1 L.list_cells-count.auto.1.1.1.1.1.1.0 c.clear-2.ensures
+    c.put_cells-answer.ensures.0 c.put_cells-answer.ensures.1 L.list_cells-count.auto.found c.clear-2.ensures
 
 pub segment_cells_spec : {M : Type 1} → statement M
 segment_cells_spec =

@@ -18,7 +18,7 @@ store-requires c κs = search rules
 name-back-requires : tie.Need-name_back-requires
 name-back-requires c κs =
     let p = c.requires in
-    (λ d. record { few = (p.4 d).few; fits = omega (arith, (p.4 d).fits, c.store.auto.1.0) }, p.2, p.0.few)
+    (λ d. record { few = (p.4 d).few; fits = omega (arith, (p.4 d).fits, c.store.auto.neighbours) }, p.2, p.0.few)
 
 same_length : tie.Need-shape_of-corners
 same_length c = search rules
