@@ -12,7 +12,7 @@ use Rattle.cavity_base.proofs.answer_of.Statement.{statement}
 use Rattle.cavity_base.proofs.answer_of.Tie as tie
 
 corners_are : (c : tie.After-four_at) → Cornered c.args.points.now c.four_at.result
-corners_are c = let s = c.before.before.before.before.before.before.before in subst (Cornered _) (sym c.four_at.ensures) (cornered s.requires.0.mesh _ s.requires.1)
+corners_are c = subst (Cornered _) (sym c.four_at.ensures) (cornered c.requires.0.mesh _ c.requires.1)
 
 abbrev start : tie.After-sphere_answer-sphere → tie.Start
 start c = c.before.before.before.before.before.before.before.before.before
@@ -26,16 +26,15 @@ answer_here c =
     read_answer a.points.now a.corners.now a.neighbours.now a.c a.node.position)
 
 shared-slice-read-t14 : tie.Need-bounds-answers-c
-shared-slice-read-t14 c = let s = c.before.before.before.before.before.before in omega (arith, s.requires.1.below, s.requires.0.answered c.if-handed.true)
+shared-slice-read-t14 c = omega (arith, c.requires.1.below, c.requires.0.answered c.if-handed.true)
 
 returns : tie.Need-returns-then-handed
 unfolding of_bits
 returns c =
-    let s = c.before.before.before.before.before.before in
-    answered_by_byte (tables s.args.points.now s.args.corners.now s.args.neighbours.now) s.args.node.position s.args.c s.args.node.handed s.args.answers.now c.if-handed.true
+    answered_by_byte (tables c.args.points.now c.args.corners.now c.args.neighbours.now) c.args.node.position c.args.c c.args.node.handed c.args.answers.now c.if-handed.true
 
 four-at-requires : tie.Need-four_at-requires
-four-at-requires c κs = let s = c.before.before.before.before.before.before in has_corners s.requires.0.mesh _ s.requires.1.below
+four-at-requires c κs = has_corners c.requires.0.mesh _ c.requires.1.below
 
 positions-requires : tie.Need-positions-requires
 positions-requires c κs = (corners_are c).has
@@ -51,15 +50,13 @@ enum-known-sphere-2 c = search rules
 
 returns-2 : tie.Need-returns-in-Inside
 returns-2 c =
-    let j = c.before in
-    let s = start j in
-    answered_by_sphere _ _ _ s.args.answers.now j.if-handed.false _ (sym c.sphere-1.given.1 ∙ answer_here j)
+    let s = start c.before in
+    answered_by_sphere _ _ _ s.args.answers.now c.if-handed.false _ (sym c.in-Inside.is ∙ answer_here c.before)
 
 returns-3 : tie.Need-returns-in-Outside
 returns-3 c =
-    let j = c.before in
-    let s = start j in
-    answered_by_sphere _ _ _ s.args.answers.now j.if-handed.false _ (sym c.sphere-in-Outside-1.given.1 ∙ answer_here j)
+    let s = start c.before in
+    answered_by_sphere _ _ _ s.args.answers.now c.if-handed.false _ (sym c.in-Outside.is ∙ answer_here c.before)
 
 pub answer_of_spec : {M : Type 1} → statement M
 answer_of_spec =

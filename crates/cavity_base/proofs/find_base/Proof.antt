@@ -19,24 +19,23 @@ abbrev decreases-loop : tie.decreases-loop-c
 decreases-loop points corners neighbours answers node codes state₀ list₀ n g₀ c₀ state list g c = n - c
 
 loop-holds : tie.Need-loop-c-init invariant-loop decreases-loop
-loop-holds c = let s = c.before.before.before.before.before.before.before in (omega arith, scan_start s.requires.0.mesh _ s.requires.0.position _ s.requires.2)
+loop-holds c = (omega arith, scan_start c.requires.0.mesh _ c.requires.0.position _ c.requires.2)
 
 abbrev start : tie.After-four_at invariant-loop decreases-loop → tie.Start invariant-loop decreases-loop
 start c = c.before.before.before.before.before.before.before.before.before.before
 
 four-at-requires : tie.Need-four_at-requires invariant-loop decreases-loop
-four-at-requires c κs = let s = c.before.before.before.before.before.before.before.before.before in has_corners s.requires.0.mesh _ (omega arith)
+four-at-requires c κs = has_corners c.requires.0.mesh _ (omega arith)
 
 may-hold-requires : tie.Need-may_hold-requires invariant-loop decreases-loop
 may-hold-requires c κs = let p = (start c).requires in codes_there _ _ _ _ (solid p.0.mesh) _ (omega arith) c.four_at.ensures (start c).args.codes.now (ap length p.1 ∙ side_codes_length _ _ _)
 
 try-base-requires : tie.Need-try_base-g-requires invariant-loop decreases-loop
 try-base-requires c κs =
-    let f = c.before.before.before.before in
-    let p = (start f).requires in
+    let p = (start c.before.before.before.before).requires in
     let S = solid p.0.mesh in
-    let first = may_hold_first _ _ _ _ S _ (omega arith) f.four_at.ensures _ (sym c.may_hold.ensures ∙ c.if-may_hold.true) in
-    (p.0, cell_at _ _ _ _ S _ (omega arith) f.four_at.ensures _ _ first, f.loop-c.invariant.1)
+    let first = may_hold_first _ _ _ _ S _ (omega arith) c.four_at.ensures _ (sym c.may_hold.ensures ∙ c.if-may_hold.true) in
+    (p.0, cell_at _ _ _ _ S _ (omega arith) c.four_at.ensures _ _ first, c.loop-c.invariant.1)
 
 add-c : tie.Need-overflow_add-c invariant-loop decreases-loop
 add-c c = omega (arith, cells_few (start c.before.before).requires.0.mesh)
@@ -47,14 +46,13 @@ loop-less c = omega arith
 -- an entry that cannot hold the node is passed over
 loop-again : tie.Need-loop-c-preserved invariant-loop decreases-loop
 loop-again c =
-    let f = c.before.before in
-    let p = (start f).requires in
-    let l = f.loop-c in (
+    let p = (start c.before.before).requires in
+    let l = c.loop-c in (
       omega arith,
       ⊎_elim
           (λ w. scanned_same w.state-is w.list-is w.g-is w.try_base-g.ensures)
           (λ w. scanned_same w.state-is w.list-is w.g-is (scan_past p.0.mesh _ p.0.position l.invariant.1
-          (may_not_hold _ _ _ _ (solid p.0.mesh) _ (omega arith) f.four_at.ensures _ _ p.1 _ (sym c.may_hold.ensures ∙ w.if-may_hold.false))))
+          (may_not_hold _ _ _ _ (solid p.0.mesh) _ (omega arith) c.four_at.ensures _ _ p.1 _ (sym c.may_hold.ensures ∙ w.if-may_hold.false))))
           c.if-may_hold.branch-raw,
     )
 

@@ -24,7 +24,7 @@ tested c =
     c.cell_holds.ensures ∙ holds_is a.points.now a.corners.now a.neighbours.now a.c a.node.position (start c.before).requires.1.lives c.four_at.ensures
 
 four-at-requires : tie.Need-four_at-requires
-four-at-requires c κs = let s = c.before.before.before.before.before.before.before in has_corners s.requires.0.mesh _ s.requires.1.below
+four-at-requires c κs = has_corners c.requires.0.mesh _ c.requires.1.below
 
 cell-holds-requires : tie.Need-cell_holds-requires
 cell-holds-requires c κs = let p = (start c).requires in (subst (Cornered _) (sym c.four_at.ensures) (cornered p.0.mesh _ p.1), p.0.position)
@@ -54,12 +54,9 @@ same-length-2 c = search rules
 
 returns-2 : tie.Need-returns
 returns-2 c =
-    let j = c.before.before.before.before in
-    let a = j.before.before.before in
-    let h = a.before.before in
-    let s = start h.before in
-    scan_join s.requires.0.mesh _ s.requires.0.position s.requires.2 s.requires.1.below (test_passed (tested h) (not_from_true _ a.if-not-cell_holds.false))
-    (answer_t _ _ _ _ a.answer_of-a.ensures) j.join.ensures.0 j.join.ensures.1 j.join.ensures.2
+    let s = start c.before.before.before.before.before.before.before.before.before.before in
+    scan_join s.requires.0.mesh _ s.requires.0.position s.requires.2 s.requires.1.below (test_passed (tested c.before.before.before.before.before.before.before.before.before) (not_from_true _ c.if-not-cell_holds.false))
+    (answer_t _ _ _ _ c.answer_of-a.ensures) c.join.ensures.0 c.join.ensures.1 c.join.ensures.2
 
 pub try_base_spec : {M : Type 1} → statement M
 try_base_spec = tie.close (tie.spec four-at-requires cell-holds-requires returns answer-of-requires join-requires same_length same-length-2 returns-2)

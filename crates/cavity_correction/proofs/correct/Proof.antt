@@ -16,16 +16,15 @@ abbrev decreases-loop : tie.decreases-loop-kept
 decreases-loop points corners neighbours node before state₀ list₀ faces₀ exposed₀ size₀ kept₀ state list faces exposed size kept = size
 
 add-size : tie.Need-overflow_add-size invariant-loop decreases-loop
-add-size c = let s = c.before.before.before.before.before.before.before in omega (arith, size≤ s.requires.2.list, cells_few s.requires.0)
+add-size c = omega (arith, size≤ c.requires.2.list, cells_few c.requires.0)
 
 loop-holds : tie.Need-loop-kept-init invariant-loop decreases-loop
-loop-holds c = let s = c.before.before.before.before.before.before.before in (no_round (omega arith) s.requires.2 s.requires.3, s.requires.4)
+loop-holds c = (no_round (omega arith) c.requires.2 c.requires.3, c.requires.4)
 
 round-requires : tie.Need-round-kept-requires invariant-loop decreases-loop
 round-requires c κs =
-    let s = c.before.before.before.before.before.before.before.before.before.before.before.before.before in
     let l = c.loop-kept in
-    (s.requires.0, s.requires.1, l.invariant.0.left, l.invariant.0.codes, l.invariant.1)
+    (c.requires.0, c.requires.1, l.invariant.0.left, l.invariant.0.codes, l.invariant.1)
 
 loop-less : tie.Need-loop-kept-smaller invariant-loop decreases-loop
 loop-less c = omega arith

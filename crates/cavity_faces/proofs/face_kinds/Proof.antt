@@ -24,7 +24,7 @@ link : (c : tie.After-load-cell) (i : ℕ) → i < 4 → get_or c.load-cell.resu
 link c i l real = subst (λ m. get_or c.load-cell.result.neighbours i 0 < m) (sym (start c).requires.2) (loaded_link (start c).requires.0 (start c).requires.3 c.load-cell.ensures i l real)
 
 load-requires : tie.Need-load-cell-requires
-load-requires c κs = let s = c.before.before.before.before.before in (has_corners s.requires.0 _ s.requires.3.below, has_neighbours s.requires.0 _ s.requires.3.below)
+load-requires c κs = (has_corners c.requires.0 _ c.requires.3.below, has_neighbours c.requires.0 _ c.requires.3.below)
 
 positions-requires : tie.Need-positions-requires
 positions-requires c κs = (corners_are c.before.before).has
@@ -58,9 +58,8 @@ face-kind-requires-4 c κs = link c.before.before.before.before.before.before.be
 
 returns : tie.Need-returns
 returns c =
-    let l = c.before.before.before.before.before.before.before.before.before.before.before.before in
-    let s = start l in
-    kinds_are s.requires.0 s.requires.1 s.requires.3 l.load-cell.ensures s.args.state.now
+    let s = start c.before.before.before.before.before.before.before.before.before.before.before.before in
+    kinds_are s.requires.0 s.requires.1 s.requires.3 c.load-cell.ensures s.args.state.now
     (c.volumes_at-v.ensures ∙ ap (λ t. volumes_at t s.args.node.position) c.positions.ensures)
     c.face_kind.ensures c.face_kind-2.ensures c.face_kind-3.ensures c.face_kind-4.ensures
 

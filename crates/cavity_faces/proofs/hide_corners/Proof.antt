@@ -32,10 +32,9 @@ four-at-requires c κs = c.requires.0.cells c.loop-h.h (omega arith)
 
 hide-requires : tie.Need-hide-requires invariant-loop decreases-loop
 hide-requires c κs j l =
-    let s = c.before.before.before.before.before.before.before.before in
     let h = c.loop-h in
     let e = ap (λ k. get_or k j 0) c.four_at.ensures in
-    omega (arith, e, s.requires.0.few h.h j (omega arith) l, h.invariant.1.long)
+    omega (arith, e, c.requires.0.few h.h j (omega arith) l, h.invariant.1.long)
 
 add-h : tie.Need-overflow_add-h invariant-loop decreases-loop
 add-h c = omega (arith, c.requires.0.entries)
@@ -45,12 +44,11 @@ loop-less c = omega arith
 
 loop-again : tie.Need-loop-h-preserved invariant-loop decreases-loop
 loop-again c =
-    let s = c.before.before.before.before.before.before.before.before.before.before.before in
     let l = c.loop-h in (
       omega arith,
-      subst (NoneExposed (tables [] s.args.corners.now []) s.args.list.now (l.h + 1))
+      subst (NoneExposed (tables [] c.args.corners.now []) c.args.list.now (l.h + 1))
           (sym (c.hide.ensures ∙ ap (without_corners l.exposed) c.four_at.ensures))
-          (none_exposed_more [] s.args.corners.now [] s.args.list.now l.h l.invariant.1 (λ j i. omega (arith, s.requires.0.few l.h j (omega arith) i, l.invariant.1.long))),
+          (none_exposed_more [] c.args.corners.now [] c.args.list.now l.h l.invariant.1 (λ j i. omega (arith, c.requires.0.few l.h j (omega arith) i, l.invariant.1.long))),
     )
 
 same_length : tie.Need-shape_of-exposed invariant-loop decreases-loop
@@ -58,10 +56,9 @@ same_length c = c.loop-h.invariant.1.long ∙ sym c.requires.1
 
 returns : tie.Need-returns invariant-loop decreases-loop
 returns c =
-    let s = c.before.before.before.before.before in
     let l = c.loop-h in
-    let e : l.h ≡ s.args.size = omega arith in
-    subst (λ h. NoneExposed (tables [] s.args.corners.now []) s.args.list.now h l.exposed) e l.invariant.1
+    let e : l.h ≡ c.args.size = omega arith in
+    subst (λ h. NoneExposed (tables [] c.args.corners.now []) c.args.list.now h l.exposed) e l.invariant.1
 
 pub hide_corners_spec : {M : Type 1} → statement M
 hide_corners_spec =

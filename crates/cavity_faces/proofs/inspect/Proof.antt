@@ -15,16 +15,15 @@ code-of-requires : tie.Need-code_of-requires
 code-of-requires c κs = kinds≤ _ _ _ _ c.face_kinds-k.ensures
 
 slice-write-faces : tie.Need-bounds-faces-c
-slice-write-faces c = let s = c.before.before.before.before.before.before.before.before in omega (arith, s.requires.3.below, s.requires.4, cells_few s.requires.0)
+slice-write-faces c = omega (arith, c.requires.3.below, c.requires.4, cells_few c.requires.0)
 
 four-at-requires : tie.Need-four_at-requires
-four-at-requires c κs = let s = c.before.before.before.before.before.before.before.before.before in has_corners s.requires.0 _ s.requires.3.below
+four-at-requires c κs = has_corners c.requires.0 _ c.requires.3.below
 
 mark-faces-requires : tie.Need-mark_faces-requires
 mark-faces-requires c κs j l =
-    let s = c.before.before.before.before.before.before.before.before.before.before in
     let e = ap (λ k. get_or k j 0) c.four_at.ensures in
-    omega (arith, e, corner_mark s.requires.0 s.args.c j s.requires.3 l, s.requires.5)
+    omega (arith, e, corner_mark c.requires.0 c.args.c j c.requires.3 l, c.requires.5)
 
 same_length : tie.Need-shape_of-faces
 same_length c = search rules
@@ -34,9 +33,9 @@ same-length-2 c = search rules
 
 returns : tie.Need-returns
 returns c =
-    let s = c.before.before.before.before.before.before.before.before.before.before.before.before.before in (
-      ap (set s.args.faces.now s.args.c) (c.code_of.ensures ∙ ap kinds_code c.face_kinds-k.ensures),
-      c.mark_faces.ensures ∙ ap₂ (with_faces 4 s.args.exposed.now) c.face_kinds-k.ensures c.four_at.ensures,
+    (
+      ap (set c.args.faces.now c.args.c) (c.code_of.ensures ∙ ap kinds_code c.face_kinds-k.ensures),
+      c.mark_faces.ensures ∙ ap₂ (with_faces 4 c.args.exposed.now) c.face_kinds-k.ensures c.four_at.ensures,
     )
 
 pub inspect_spec : {M : Type 1} → statement M

@@ -19,31 +19,29 @@ loop-holds : tie.Need-loop-h-init invariant-loop decreases-loop
 loop-holds c = (omega arith, c.requires.3)
 
 mul-c : tie.Need-offset_bounds-list-h invariant-loop decreases-loop
-mul-c c = let s = c.before.before.before.before.before.before.before.before.before in omega (arith, size≤ s.requires.2, cells_few s.requires.0)
+mul-c c = omega (arith, size≤ c.requires.2, cells_few c.requires.0)
 
 shared-slice-read-c : tie.Need-bounds-list-h invariant-loop decreases-loop
-shared-slice-read-c c = let s = c.before.before.before.before.before.before.before.before.before.before in omega (arith, size≤ s.requires.2, cells_few s.requires.0, s.requires.2.entries)
+shared-slice-read-c c = omega (arith, size≤ c.requires.2, cells_few c.requires.0, c.requires.2.entries)
 
 cast-c : tie.Need-overflow_cast-c invariant-loop decreases-loop
-cast-c c = let s = c.before.before.before.before.before.before.before.before.before.before in omega (arith, s.requires.2.below c.loop-h.h (omega arith), cells_few s.requires.0)
+cast-c c = omega (arith, c.requires.2.below c.loop-h.h (omega arith), cells_few c.requires.0)
 
 inspect-requires : tie.Need-inspect-requires invariant-loop decreases-loop
 inspect-requires c κs =
-    let s = c.before.before.before.before.before.before.before.before.before.before.before.before in
     let l = c.loop-h in
-    (s.requires.0, s.requires.1, s.requires.2.states, listed_cell s.requires.2 l.h (omega arith), l.invariant.1.codes, l.invariant.1.marks)
+    (c.requires.0, c.requires.1, c.requires.2.states, listed_cell c.requires.2 l.h (omega arith), l.invariant.1.codes, l.invariant.1.marks)
 
 add-h : tie.Need-overflow_add-h invariant-loop decreases-loop
-add-h c = let s = c.before.before.before.before.before.before.before.before.before.before.before.before.before.before.before.before.before in omega (arith, size≤ s.requires.2, cells_few s.requires.0)
+add-h c = omega (arith, size≤ c.requires.2, cells_few c.requires.0)
 
 loop-less : tie.Need-loop-h-smaller invariant-loop decreases-loop
 loop-less c = omega arith
 
 loop-again : tie.Need-loop-h-preserved invariant-loop decreases-loop
 loop-again c =
-    let s = c.before.before.before.before.before.before.before.before.before.before.before.before.before.before.before.before.before in
     let l = c.loop-h in
-    (omega arith, inspected_more s.requires.0 _ s.requires.2 l.h (omega arith) l.invariant.1 c.inspect.ensures.0 c.inspect.ensures.1)
+    (omega arith, inspected_more c.requires.0 _ c.requires.2 l.h (omega arith) l.invariant.1 c.inspect.ensures.0 c.inspect.ensures.1)
 
 same_length : tie.Need-shape_of-faces invariant-loop decreases-loop
 same_length c = c.loop-h.invariant.1.codes ∙ sym c.requires.3.codes

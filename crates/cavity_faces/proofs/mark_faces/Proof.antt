@@ -24,9 +24,8 @@ places c =
 
 within : (c : tie.After-mark_face-arg-1 invariant-loop decreases-loop) (j : ℕ) → j < 4 → get_or c.args.v j 0 < length c.loop-i.exposed
 within c j l =
-    let s = c.before.before.before.before.before in
     let i = c.loop-i in
-    subst (λ m. get_or s.args.v j 0 < m) (sym (ap length i.invariant.1 ∙ faces_length _ _ _ s.requires 0 i.i i.invariant.0)) (s.requires j l)
+    subst (λ m. get_or c.args.v j 0 < m) (sym (ap length i.invariant.1 ∙ faces_length _ _ _ c.requires 0 i.i i.invariant.0)) (c.requires j l)
 
 loop-holds : tie.Need-loop-i-init invariant-loop decreases-loop
 unfolding with_faces

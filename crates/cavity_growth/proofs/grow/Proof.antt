@@ -21,7 +21,7 @@ abbrev decreases-loop : tie.decreases-loop-h
 decreases-loop points corners neighbours answers node denied₀ state₀ list₀ g₀ h₀ denied state list g h = node.used - h
 
 loop-holds : tie.Need-loop-h-init invariant-loop decreases-loop
-loop-holds c = let s = c.before.before.before.before.before.before.before in (omega arith, s.requires.1, (λ k l. absurd (omega arith)), s.requires.2)
+loop-holds c = (omega arith, c.requires.1, (λ k l. absurd (omega arith)), c.requires.2)
 
 mul-c : tie.Need-offset_bounds-list-h invariant-loop decreases-loop
 mul-c c = let l = c.loop-h in omega (arith, size≤ l.invariant.1.growing.list, cells_few c.requires.0.mesh)
@@ -37,9 +37,8 @@ four-at-requires c κs = let l = c.loop-h in has_neighbours c.requires.0.mesh _ 
 
 visit-all-requires : tie.Need-visit_all-g-requires invariant-loop decreases-loop
 visit-all-requires c κs =
-    let s = c.before.before.before.before.before.before.before.before.before.before.before.before.before.before.before in
     let l = c.loop-h in
-    (s.requires.0, l.invariant.1, four_neighbours s.requires.0.mesh _ s.requires.0.position l.invariant.1 l.h (omega arith) c.four_at.ensures, l.invariant.3)
+    (c.requires.0, l.invariant.1, four_neighbours c.requires.0.mesh _ c.requires.0.position l.invariant.1 l.h (omega arith) c.four_at.ensures, l.invariant.3)
 
 add-h : tie.Need-overflow_add-h invariant-loop decreases-loop
 add-h c = let l = c.loop-h in omega (arith, size≤ l.invariant.1.growing.list, cells_few c.requires.0.mesh)
@@ -49,13 +48,12 @@ loop-less c = let l = c.loop-h in omega (arith, size≤ l.invariant.1.growing.li
 
 loop-again : tie.Need-loop-h-preserved invariant-loop decreases-loop
 loop-again c =
-    let s = c.before.before.before.before.before.before.before.before.before.before.before.before.before.before.before.before.before.before.before.before.before.before in
     let l = c.loop-h in
     let v = c.visit_all-g.ensures in
     let more = c.loop-h-test.true in (
       omega (arith, v.1.size≤, more),
       v.0,
-      closed_more s.requires.0.mesh _ s.requires.0.position l.invariant.1 l.h (omega (arith, more)) c.four_at.ensures v.1 l.invariant.2 v.2,
+      closed_more c.requires.0.mesh _ c.requires.0.position l.invariant.1 l.h (omega (arith, more)) c.four_at.ensures v.1 l.invariant.2 v.2,
       v.3,
     )
 
@@ -70,9 +68,8 @@ same-length-3 c = c.loop-h.invariant.1.growing.list.entries ∙ sym c.requires.1
 
 returns : tie.Need-returns invariant-loop decreases-loop
 returns c =
-    let s = c.before.before.before.before.before.before.before.before.before.before in
     let l = c.loop-h in
-    (l.invariant.1, grown_cavity s.requires.0.mesh _ s.requires.0.position l.invariant.1 (λ k j h i. l.invariant.2 k (omega arith) j i), l.invariant.3)
+    (l.invariant.1, grown_cavity c.requires.0.mesh _ c.requires.0.position l.invariant.1 (λ k j h i. l.invariant.2 k (omega arith) j i), l.invariant.3)
 
 pub grow_spec : {M : Type 1} → statement M
 grow_spec =

@@ -21,7 +21,7 @@ abbrev decreases-loop : tie.decreases-loop-j
 decreases-loop points corners neighbours answers node denied₀ state₀ list₀ u g₀ j₀ denied state list g j = 4 - j
 
 loop-holds : tie.Need-loop-j-init invariant-loop decreases-loop
-loop-holds c = let s = c.before.before.before.before.before.before.before in (omega arith, s.requires.1, grew_none, (λ i l. absurd (omega arith)), s.requires.3)
+loop-holds c = (omega arith, c.requires.1, grew_none, (λ i l. absurd (omega arith)), c.requires.3)
 
 mul-visit : tie.Need-offset_bounds-u-j invariant-loop decreases-loop
 mul-visit c = omega arith
@@ -30,7 +30,7 @@ array-read-visit : tie.Need-bounds-u-j invariant-loop decreases-loop
 array-read-visit c = omega arith
 
 visit-requires : tie.Need-visit-g-requires invariant-loop decreases-loop
-visit-requires c κs = let s = c.before.before.before.before.before.before.before.before.before.before.before.before in let l = c.loop-j in (s.requires.0, l.invariant.1, s.requires.2 l.j (omega arith), l.invariant.4)
+visit-requires c κs = let l = c.loop-j in (c.requires.0, l.invariant.1, c.requires.2 l.j (omega arith), l.invariant.4)
 
 add-j : tie.Need-overflow_add-j invariant-loop decreases-loop
 add-j c = omega arith
@@ -40,14 +40,13 @@ loop-less c = omega arith
 
 loop-again : tie.Need-loop-j-preserved invariant-loop decreases-loop
 loop-again c =
-    let s = c.before.before.before.before.before.before.before.before.before.before.before.before.before.before.before.before.before.before.before in
     let l = c.loop-j in
     let v = c.visit-g.ensures in
     let more = c.loop-j-test.true in (
       omega (arith, more),
       v.0,
       grew_then l.invariant.2 v.1,
-      below_more _ l.j (λ i h. inside_stays _ _ _ _ (s.requires.2 i (omega (arith, h, more))) v.1 (l.invariant.3 i h)) v.2,
+      below_more _ l.j (λ i h. inside_stays _ _ _ _ (c.requires.2 i (omega (arith, h, more))) v.1 (l.invariant.3 i h)) v.2,
       v.3,
     )
 

@@ -50,30 +50,25 @@ returns : tie.Need-returns-then-refusal-ne0
 returns c = looked_refused c.find-found.ensures refl _ c.if-refusal-ne0.true
 
 returns-2 : tie.Need-returns-then-marks-node
-returns-2 c = let e = c.before.before in looked_short ((found_at e).find-found.ensures.starable e.if-refusal-ne0.false) refl _ (omega (arith, c.if-marks-node.true))
+returns-2 c = looked_short ((found_at c.before.before).find-found.ensures.starable c.if-refusal-ne0.false) refl _ (omega (arith, c.if-marks-node.true))
 
 report-requires : tie.Need-report-seen-requires
 report-requires c κs =
-    let e = c.before.before in
-    report_asks ((found_at e).find-found.ensures.starable e.if-refusal-ne0.false)
+    report_asks ((found_at c.before.before).find-found.ensures.starable c.if-refusal-ne0.false)
 
 slice-aggregate-write-marks : tie.Need-slice_bounds-write_marks-end
 slice-aggregate-write-marks c = sym (found_at c.before.before.before.before).find-found.auto.state
 
 write-marks-requires : tie.Need-write_marks-requires
 write-marks-requires c κs =
-    let e = c.before.before.before.before.before in
-    (states_long ((found_at e).find-found.ensures.starable e.if-refusal-ne0.false), omega (arith, c.if-marks-node.false))
+    (states_long ((found_at c.before.before.before.before.before).find-found.ensures.starable c.if-refusal-ne0.false), omega (arith, c.if-marks-node.false))
 
 same_length : tie.Need-shape_of-marks
 same_length c = search rules
 
 returns-3 : tie.Need-returns
 returns-3 c =
-    let written = c.before.before in
-    let told = written.before.before.before in
-    let e = told.before.before.before in
-    looked_reported ((found_at e).find-found.ensures.starable e.if-refusal-ne0.false) refl _ (omega (arith, told.if-marks-node.false)) told.report-seen.ensures written.write_marks.ensures
+    looked_reported ((found_at c.before.before.before.before.before.before.before.before).find-found.ensures.starable c.if-refusal-ne0.false) refl _ (omega (arith, c.if-marks-node.false)) c.report-seen.ensures c.write_marks.ensures
 
 pub look_node_spec : {M : Type 1} → statement M
 look_node_spec =

@@ -79,7 +79,7 @@ same-length-4 c = c.attempt_node-attempt.auto.corrections ∙ c.loop-i.invariant
 returns : tie.Need-returns-in_default invariant-loop decreases-loop
 returns c =
     let L = node_read c.point_at.ensures c.attempt_node-attempt.ensures.0 in
-    stops_here c.loop-i.invariant.1 L (omega (arith, c.loop-i-test.true)) c.enum_told-1.given.1
+    stops_here c.loop-i.invariant.1 L (omega (arith, c.loop-i-test.true)) c.in_default.is
 
 add-i : tie.Need-overflow_add-i invariant-loop decreases-loop
 add-i c = omega (arith, place< c.loop-i.invariant.1)
@@ -93,7 +93,7 @@ loop-again c =
     let v = c.loop-i.invariant in
     let a = c.attempt_node-attempt in
     let L = node_read c.point_at.ensures a.ensures.0 in
-    let q = c.answer-1.given.1 in (
+    let q = c.in-Accepted.is in (
       omega (arith, more),
       one_more v.1 L q (omega (arith, more)) a.auto.1.0 a.auto.1.1.0 a.auto.1.1.1.0,
       scratch_next v.1 L q a.ensures.1,

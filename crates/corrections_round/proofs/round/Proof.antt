@@ -16,35 +16,29 @@ magnitude-requires-2 c κs = omega (arith, ap nat_abs (back_64 c.args.volume (om
 
 quotient-requires : tie.Need-quotient-q-requires
 quotient-requires c κs =
-    let s = c.before.before in
-    let e = ap nat_abs (back_64 s.args.sum (omega arith)) in
-    let k = ap nat_abs (back_64 s.args.volume (omega arith)) in
-    (omega arith, omega (arithℤ, abs_parts s.args.volume), omega arith)
+    let e = ap nat_abs (back_64 c.args.sum (omega arith)) in
+    let k = ap nat_abs (back_64 c.args.volume (omega arith)) in
+    (omega arith, omega (arithℤ, abs_parts c.args.volume), omega arith)
 
 cast-result : tie.Need-overflow_cast-result
 cast-result c =
-    let s = c.before.before.before.before in
-    quotient_fits s.args.sum s.args.volume s.requires c.magnitude.ensures c.magnitude-2.ensures c.quotient-q.ensures
+    quotient_fits c.args.sum c.args.volume c.requires c.magnitude.ensures c.magnitude-2.ensures c.quotient-q.ensures
 
 sub-result : tie.Need-overflow_sub-result
 sub-result c =
-    let s = c.before.before.before.before in
-    opposite_fits s.args.sum s.args.volume s.requires c.magnitude.ensures c.magnitude-2.ensures c.quotient-q.ensures
+    opposite_fits c.args.sum c.args.volume c.requires c.magnitude.ensures c.magnitude-2.ensures c.quotient-q.ensures
 
 returns : tie.Need-returns-then-sum-lt0
 returns c =
-    let s = c.before.before.before.before in
-    nearest_below s.args.sum s.args.volume s.requires c.magnitude.ensures c.magnitude-2.ensures c.quotient-q.ensures c.if-sum-lt0.true
+    nearest_below c.args.sum c.args.volume c.requires c.magnitude.ensures c.magnitude-2.ensures c.quotient-q.ensures c.if-sum-lt0.true
 
 cast-result-2 : tie.Need-overflow_cast-result-2
 cast-result-2 c =
-    let s = c.before.before.before.before in
-    quotient_fits s.args.sum s.args.volume s.requires c.magnitude.ensures c.magnitude-2.ensures c.quotient-q.ensures
+    quotient_fits c.args.sum c.args.volume c.requires c.magnitude.ensures c.magnitude-2.ensures c.quotient-q.ensures
 
 returns-2 : tie.Need-returns
 returns-2 c =
-    let s = c.before.before.before.before in
-    nearest_not_below s.args.sum s.args.volume s.requires c.magnitude.ensures c.magnitude-2.ensures c.quotient-q.ensures c.if-sum-lt0.false
+    nearest_not_below c.args.sum c.args.volume c.requires c.magnitude.ensures c.magnitude-2.ensures c.quotient-q.ensures c.if-sum-lt0.false
 
 pub round_spec : {M : Type 1} → statement M
 round_spec = tie.close (tie.spec magnitude-requires magnitude-requires-2 quotient-requires cast-result sub-result returns cast-result-2 returns-2)

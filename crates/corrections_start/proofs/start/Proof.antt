@@ -47,10 +47,10 @@ same-length-8 : tie.Need-shape_of-corrections-in_default
 same-length-8 c = search rules
 
 returns-2 : tie.Need-returns-in_default
-returns-2 c = start_refused _ _ _ _ _ _ (sym (c.too_short.ensures _ _) ∙ c.if-too_short.false) c.enum_told-in_default-1.given.1 c.start-answer.ensures
+returns-2 c = start_refused _ _ _ _ _ _ (sym (c.too_short.ensures _ _) ∙ c.if-too_short.false) c.in_default.is c.start-answer.ensures
 
 clear-corners-requires : tie.Need-clear_corners-requires
-clear-corners-requires c κs = corners_lent _ _ _ _ _ _ (sym (c.too_short.ensures _ _) ∙ c.if-too_short.false) c.enum_told-1.given.1 c.start-answer.ensures
+clear-corners-requires c κs = corners_lent _ _ _ _ _ _ (sym (c.too_short.ensures _ _) ∙ c.if-too_short.false) c.in-Accepted.is c.start-answer.ensures
 
 same-length-9 : tie.Need-shape_of-points
 same-length-9 c = search rules
@@ -69,7 +69,7 @@ same-length-13 c = search rules
 
 returns-3 : tie.Need-returns
 returns-3 c =
-    let L = start_accepted _ _ _ _ _ _ (sym (c.too_short.ensures _ _) ∙ c.if-too_short.false) c.enum_told-1.given.1 c.start-answer.ensures in
+    let L = start_accepted _ _ _ _ _ _ (sym (c.too_short.ensures _ _) ∙ c.if-too_short.false) c.in-Accepted.is c.start-answer.ensures in
     record { answer = L.answer; tables = L.tables; corrections = c.clear_corners.ensures ∙ L.corrections; work = L.work }
 
 pub start_spec : {M : Type 1} → statement M

@@ -31,15 +31,13 @@ some-zero-requires c κs = omega (arith, ap length c.side_codes-codes.ensures �
 
 returns-2 : tie.Need-returns-then-some_zero
 returns-2 c =
-    let s = c.before.before.before.before.before.before.before.before in
     λ ks ns. early_taken _ _ _ (test_passed c.in_box.ensures (not_from_true _ c.if-not-in_box.false))
-    (sym (c.some_zero.ensures ∙ taken_is (tables s.args.points.now ks ns) s.args.mesh.points s.args.q s.requires.0 c.side_codes-codes.ensures) ∙ c.if-some_zero.true)
+    (sym (c.some_zero.ensures ∙ taken_is (tables c.args.points.now ks ns) c.args.mesh.points c.args.q c.requires.0 c.side_codes-codes.ensures) ∙ c.if-some_zero.true)
 
 returns-3 : tie.Need-returns
 returns-3 c =
-    let s = c.before.before.before.before.before.before.before.before in
     λ ks ns. early_wrong _ _ _ (test_passed c.in_box.ensures (not_from_true _ c.if-not-in_box.false))
-    (sym (c.some_zero.ensures ∙ taken_is (tables s.args.points.now ks ns) s.args.mesh.points s.args.q s.requires.0 c.side_codes-codes.ensures) ∙ c.if-some_zero.false)
+    (sym (c.some_zero.ensures ∙ taken_is (tables c.args.points.now ks ns) c.args.mesh.points c.args.q c.requires.0 c.side_codes-codes.ensures) ∙ c.if-some_zero.false)
 
 pub early_refusal_spec : {M : Type 1} → statement M
 early_refusal_spec =

@@ -42,26 +42,22 @@ number-at-requires-4 c κs = (c.requires.3 3 (omega arith)).0
 
 weighted-sum-requires : tie.Need-weighted_sum-requires
 weighted-sum-requires c κs =
-    let s = c.before.before.before.before in
-    read_small s.args.corrections.now s.args.k s.args.axis s.args.v s.requires c.number_at-a.ensures c.number_at-b.ensures c.number_at-c.ensures c.number_at-d.ensures
+    read_small c.args.corrections.now c.args.k c.args.axis c.args.v c.requires c.number_at-a.ensures c.number_at-b.ensures c.number_at-c.ensures c.number_at-d.ensures
 
 cell-volume-requires : tie.Need-cell_volume-requires
 cell-volume-requires c κs = let h = c.requires in (h.0, h.2)
 
 round-requires : tie.Need-round-requires
 round-requires c κs =
-    let s = c.before.before.before.before.before.before in
-    ratio_within s.args.corrections.now s.args.k s.args.axis s.args.v s.requires c.number_at-a.ensures c.number_at-b.ensures c.number_at-c.ensures c.number_at-d.ensures c.weighted_sum.ensures c.cell_volume.ensures
+    ratio_within c.args.corrections.now c.args.k c.args.axis c.args.v c.requires c.number_at-a.ensures c.number_at-b.ensures c.number_at-c.ensures c.number_at-d.ensures c.weighted_sum.ensures c.cell_volume.ensures
 
 cast-result : tie.Need-overflow_cast-result
 cast-result c =
-    let s = c.before.before.before.before.before.before.before in
-    value_fits s.args.corrections.now s.args.k s.args.axis s.args.v s.requires c.number_at-a.ensures c.number_at-b.ensures c.number_at-c.ensures c.number_at-d.ensures c.weighted_sum.ensures c.cell_volume.ensures c.round.ensures
+    value_fits c.args.corrections.now c.args.k c.args.axis c.args.v c.requires c.number_at-a.ensures c.number_at-b.ensures c.number_at-c.ensures c.number_at-d.ensures c.weighted_sum.ensures c.cell_volume.ensures c.round.ensures
 
 returns : tie.Need-returns
 returns c =
-    let s = c.before.before.before.before.before.before.before in
-    value_is s.args.corrections.now s.args.k s.args.axis s.args.v s.requires c.number_at-a.ensures c.number_at-b.ensures c.number_at-c.ensures c.number_at-d.ensures c.weighted_sum.ensures c.cell_volume.ensures c.round.ensures
+    value_is c.args.corrections.now c.args.k c.args.axis c.args.v c.requires c.number_at-a.ensures c.number_at-b.ensures c.number_at-c.ensures c.number_at-d.ensures c.weighted_sum.ensures c.cell_volume.ensures c.round.ensures
 
 pub axis_value_spec : {M : Type 1} → statement M
 axis_value_spec = tie.close (tie.spec array-read-number-at cast-number-at number-at-requires array-read-number-at-2 cast-number-at-2 number-at-requires-2 array-read-number-at-3 cast-number-at-3 number-at-requires-3 array-read-number-at-4 cast-number-at-4 number-at-requires-4 weighted-sum-requires cell-volume-requires round-requires cast-result returns)

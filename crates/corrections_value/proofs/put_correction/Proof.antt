@@ -37,9 +37,8 @@ same_length c = search rules
 
 returns : tie.Need-returns
 returns c =
-    let s = c.before.before.before in
     let g = c.struct_told-3-1.given in
-    numbers_put _ s.args.v s.args.d g.0.1 g.1.0.1 g.1.1.0.1
+    numbers_put _ c.args.v c.args.d g.0.1 g.1.0.1 g.1.1.0.1
 
 pub put_correction_spec : {M : Type 1} → statement M
 put_correction_spec =

@@ -26,8 +26,7 @@ same-length-2 c = search rules
 returns : tie.Need-returns
 returns c =
     let e = c.set_correction.ensures in
-    let s = c.before.before.before.before.before.before.before.before.before.before in
-    let q = read_back s.args.x s.args.y s.args.z s.ranges.x s.ranges.y s.ranges.z in
+    let q = read_back c.args.x c.args.y c.args.z c.ranges.x c.ranges.y c.ranges.z in
     (e.0 ∙ ap (set_refusal _ _ _ _ _) q, e.1 ∙ ap (set_table _ _ _ _ _) q, e.2)
 
 pub gantry_set_correction_spec : {M : Type 1} → statement M

@@ -20,13 +20,13 @@ returns : tie.Need-returns-in-By
 unfolding corrected_of
 returns c =
     let g = c.struct_told-1.given in
-    let d = c.answer-1.given.0.0 in
+    let d = c.in-By.correction in
     let back : (z : ℤ) → mag z < 2 ^ 31 → to_z w32 (of_z w32 z) ≡ z = λ z h. to_z-of_z w32 z record { sfits = h } in
-    (λ i. record { refusal = 0; x = back d.x g.0.1 i; y = back d.y g.1.0.1 i; z = back d.z g.1.1.0.1 i }) ∙ sym (ap corrected_of c.answer-1.given.1)
+    (λ i. record { refusal = 0; x = back d.x g.0.1 i; y = back d.y g.1.0.1 i; z = back d.z g.1.1.0.1 i }) ∙ sym (ap corrected_of c.in-By.is)
 
 returns-2 : tie.Need-returns-in-Refused
 unfolding corrected_of
-returns-2 c = sym (ap corrected_of c.answer-in-Refused-1.given.1)
+returns-2 c = sym (ap corrected_of c.in-Refused.is)
 
 pub corrected_spec : {M : Type 1} → statement M
 corrected_spec = tie.close (tie.spec enum-known-answer enum-known-answer-2 returns returns-2)

@@ -13,11 +13,11 @@ enum-known-answer-2 c = search rules
 
 returns : tie.Need-returns-in-Accepted
 unfolding inserted_of
-returns c = sym (ap (inserted_of c.args.mesh) c.answer-1.given.1)
+returns c = sym (ap (inserted_of c.args.mesh) c.in-Accepted.is)
 
 returns-2 : tie.Need-returns-in-Refused
 unfolding inserted_of of_bits
-returns-2 c = sym (ap (inserted_of c.args.mesh) c.answer-in-Refused-1.given.1)
+returns-2 c = sym (ap (inserted_of c.args.mesh) c.in-Refused.is)
 
 pub inserted_spec : {M : Type 1} → statement M
 inserted_spec =

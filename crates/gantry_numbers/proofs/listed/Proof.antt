@@ -15,15 +15,15 @@ enum-known-answer-3 c = search rules
 
 returns : tie.Need-returns-in-Ended
 unfolding listed_of
-returns c = sym (ap (listed_of c.args.mesh) c.answer-1.given.1)
+returns c = sym (ap (listed_of c.args.mesh) c.in-Ended.is)
 
 returns-2 : tie.Need-returns-in-Stopped
 unfolding listed_of
-returns-2 c = sym (ap (listed_of c.args.mesh) c.answer-in-Stopped-1.given.1)
+returns-2 c = sym (ap (listed_of c.args.mesh) c.in-Stopped.is)
 
 returns-3 : tie.Need-returns-in-Refused
 unfolding listed_of
-returns-3 c = sym (ap (listed_of c.args.mesh) c.answer-in-Refused-1.given.1)
+returns-3 c = sym (ap (listed_of c.args.mesh) c.in-Refused.is)
 
 pub listed_spec : {M : Type 1} → statement M
 listed_spec =

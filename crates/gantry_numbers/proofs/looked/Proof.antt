@@ -13,11 +13,11 @@ enum-known-answer-2 c = search rules
 
 returns : tie.Need-returns-in-Reported
 unfolding looked_of
-returns c = sym (ap looked_of c.answer-1.given.1)
+returns c = sym (ap looked_of c.in-Reported.is)
 
 returns-2 : tie.Need-returns-in-Refused
 unfolding looked_of of_bits
-returns-2 c = sym (ap looked_of c.answer-in-Refused-1.given.1)
+returns-2 c = sym (ap looked_of c.in-Refused.is)
 
 pub looked_spec : {M : Type 1} → statement M
 looked_spec =

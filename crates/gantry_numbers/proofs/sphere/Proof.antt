@@ -12,11 +12,11 @@ enum-known-answer-2 c = search rules
 
 returns : tie.Need-returns-in-Inside
 unfolding sphere_of
-returns c = sym (ap sphere_of c.answer-1.given.1)
+returns c = sym (ap sphere_of c.in-Inside.is)
 
 returns-2 : tie.Need-returns-in-Outside
 unfolding sphere_of
-returns-2 c = sym (ap sphere_of c.answer-in-Outside-1.given.1)
+returns-2 c = sym (ap sphere_of c.in-Outside.is)
 
 pub sphere_spec : {M : Type 1} → statement M
 sphere_spec = tie.close (tie.spec enum-known-answer enum-known-answer-2 returns returns-2)

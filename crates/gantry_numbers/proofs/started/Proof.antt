@@ -15,11 +15,11 @@ no-mesh-requires c κs = search rules
 
 returns : tie.Need-returns-in-Accepted
 unfolding started_of
-returns c = sym (ap started_of c.answer-1.given.1)
+returns c = sym (ap started_of c.in-Accepted.is)
 
 returns-2 : tie.Need-returns-in-Refused
 unfolding started_of
-returns-2 c = rw c.no_mesh.ensures (sym (ap started_of c.answer-in-Refused-1.given.1))
+returns-2 c = rw c.no_mesh.ensures (sym (ap started_of c.in-Refused.is))
 
 pub started_spec : {M : Type 1} → statement M
 started_spec =

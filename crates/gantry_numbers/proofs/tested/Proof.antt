@@ -16,11 +16,11 @@ enum-known-answer-2 c = search rules
 
 returns : tie.Need-returns-in-Answered
 unfolding tested_of
-returns c = c.sphere.ensures ∙ sym (ap tested_of c.answer-1.given.1)
+returns c = c.sphere.ensures ∙ sym (ap tested_of c.in-Answered.is)
 
 returns-2 : tie.Need-returns-in-Refused
 unfolding tested_of of_bits
-returns-2 c = sym (ap tested_of c.answer-in-Refused-1.given.1)
+returns-2 c = sym (ap tested_of c.in-Refused.is)
 
 pub tested_spec : {M : Type 1} → statement M
 tested_spec =

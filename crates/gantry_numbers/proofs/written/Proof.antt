@@ -12,11 +12,11 @@ enum-known-answer-2 c = search rules
 
 returns : tie.Need-returns-in-Bytes
 unfolding written_of
-returns c = sym (ap written_of c.answer-1.given.1)
+returns c = sym (ap written_of c.in-Bytes.is)
 
 returns-2 : tie.Need-returns-in-Refused
 unfolding written_of
-returns-2 c = sym (ap written_of c.answer-in-Refused-1.given.1)
+returns-2 c = sym (ap written_of c.in-Refused.is)
 
 pub written_spec : {M : Type 1} → statement M
 written_spec = tie.close (tie.spec enum-known-answer enum-known-answer-2 returns returns-2)

@@ -74,10 +74,9 @@ returns-3 : tie.Need-returns
 returns-3 c =
     let s = c.requires in
     let A = admitted s.0 (c.point_tests-refusal.ensures _ _) c.if-refusal-ne0.false in
-    let r = c.before.before.before.before in
     let H = c.find_cavity-extent.ensures in
-    last_test A (relisted H.0 r.star_room.ensures.1) c.if-extent-eq0.false r.star_room.ensures.0 r.star_room.ensures.2 r.star_room.ensures.3
-    (r.star_room.auto.ranks ∙ s.1.ranks) (stamp_out s.0 H.1)
+    last_test A (relisted H.0 c.star_room.ensures.1) c.if-extent-eq0.false c.star_room.ensures.0 c.star_room.ensures.2 c.star_room.ensures.3
+    (c.star_room.auto.ranks ∙ s.1.ranks) (stamp_out s.0 H.1)
 
 pub find_spec : {M : Type 1} → statement M
 find_spec =

@@ -23,10 +23,8 @@ cell-capacity-requires c κs = search rules
 
 add-if1 : tie.Need-overflow_add-node
 add-if1 c =
-    let s = c.before.before.before.before.before.before.before.before.before.before.before.before.before.before.before.before.before.before in
-    let r = c.before.before.before.before in
-    let is = r.sort_cells.ensures in
-    omega (arith, made_fits _ s.args.node _ (r.rank_cells-made.ensures _ _ _ _ s.requires.5 (sorted_cells s.requires.4 s.requires.1 is)).0 s.requires.0 s.requires.1)
+    let is = c.sort_cells.ensures in
+    omega (arith, made_fits _ c.args.node _ (c.rank_cells-made.ensures _ _ _ _ c.requires.5 (sorted_cells c.requires.4 c.requires.1 is)).0 c.requires.0 c.requires.1)
 
 same_length : tie.Need-shape_of-list-then-cell_capacity-node
 same_length c = search rules
@@ -37,10 +35,9 @@ same-length-2 c = search rules
 returns : tie.Need-returns-then-cell_capacity-node
 unfolding cell_capacity
 returns c =
-    let r = c.before.before.before.before.before in
-    let p = r.requires in
-    let is = r.sort_cells.ensures in
-    let e = r.rank_cells-made.ensures _ _ _ _ p.5 (sorted_cells p.4 p.1 is) in
+    let p = c.requires in
+    let is = c.sort_cells.ensures in
+    let e = c.rank_cells-made.ensures _ _ _ _ p.5 (sorted_cells p.4 p.1 is) in
     (no_room _ _ _ e.0 _ c.cell_capacity.ensures c.if-cell_capacity-node.true, sorted_lists p.4 p.1 is, sorted_cells p.4 p.1 is, e.1)
 
 same-length-3 : tie.Need-shape_of-list
@@ -52,10 +49,9 @@ same-length-4 c = search rules
 returns-2 : tie.Need-returns
 unfolding cell_capacity
 returns-2 c =
-    let r = c.before.before.before.before.before in
-    let p = r.requires in
-    let is = r.sort_cells.ensures in
-    let e = r.rank_cells-made.ensures _ _ _ _ p.5 (sorted_cells p.4 p.1 is) in
+    let p = c.requires in
+    let is = c.sort_cells.ensures in
+    let e = c.rank_cells-made.ensures _ _ _ _ p.5 (sorted_cells p.4 p.1 is) in
     (has_room _ _ _ e.0 _ c.cell_capacity.ensures c.if-cell_capacity-node.false, sorted_lists p.4 p.1 is, sorted_cells p.4 p.1 is, e.1)
 
 pub star_room_spec : {M : Type 1} → statement M

@@ -28,14 +28,13 @@ slice-aggregate-list-started c = search rules
 
 list-started-requires : tie.Need-list_started-requires
 list-started-requires c κs =
-    let s = c.before.before.before.before.before.before.before.before.before.before.before.before.before.before.before.before.before.before.before.before.before.before.before.before.before.before.before.before.before.before in
-    let a = s.args in
+    let a = c.args in
     let t = tables a.points.now a.corners.now a.neighbours.now in
     let f = c.start-answer in
     let k = long_enough t zeros (omega (arith, length-replicate 3072 (pos 0))) in
     let S = start_without a.x a.y a.z t zeros a.work.now k f.ensures in
-    let e = c.answer-1.given.1 in
-    (from_start S e, s.requires, long_enough _ _ (omega (arith, f.auto.1.1.1.1.1.1.1.0, length-replicate 3072 (pos 0))), start_in_range a.x a.y a.z t zeros a.work.now k f.ensures e)
+    let e = c.in-Accepted.is in
+    (from_start S e, c.requires, long_enough _ _ (omega (arith, f.auto.1.1.1.1.1.1.1.0, length-replicate 3072 (pos 0))), start_in_range a.x a.y a.z t zeros a.work.now k f.ensures e)
 
 enum-known-answer-2 : tie.Need-enum_known-answer-in-Refused-1
 enum-known-answer-2 c = search rules
@@ -60,13 +59,12 @@ same-length-5 c = search rules
 
 returns : tie.Need-returns-in-Accepted
 returns c =
-    let s = c.before.before.before.before.before.before.before.before.before.before.before.before.before.before.before.before.before.before.before.before.before.before.before.before.before.before.before.before.before.before.before.before.before.before.before.before.before.before.before.before.before.before in
-    let a = s.args in
+    let a = c.args in
     let t = tables a.points.now a.corners.now a.neighbours.now in
     let f = c.start-answer in
     let k = long_enough t zeros (omega (arith, length-replicate 3072 (pos 0))) in
     let S = start_without a.x a.y a.z t zeros a.work.now k f.ensures in
-    reads_as c.list_started.ensures (accepted_text S c.answer-1.given.1 a.nodes.now)
+    reads_as c.list_started.ensures (accepted_text S c.in-Accepted.is a.nodes.now)
 
 same-length-6 : tie.Need-shape_of-points-in-Refused
 same-length-6 c = search rules
@@ -85,13 +83,12 @@ same-length-10 c = search rules
 
 returns-2 : tie.Need-returns-in-Refused
 returns-2 c =
-    let s = c.before.before.before.before.before.before.before.before.before.before.before.before.before.before.before.before.before.before.before.before.before.before.before.before.before.before.before.before in
-    let a = s.args in
+    let a = c.args in
     let t = tables a.points.now a.corners.now a.neighbours.now in
     let f = c.start-answer in
     let k = long_enough t zeros (omega (arith, length-replicate 3072 (pos 0))) in
     let S = start_without a.x a.y a.z t zeros a.work.now k f.ensures in
-    reads_as c.write_refused.ensures (start_refused_text S a.nodes.now c.answer-in-Refused-1.given.1)
+    reads_as c.write_refused.ensures (start_refused_text S a.nodes.now c.in-Refused.is)
 
 pub list_nodes_spec : {M : Type 1} → statement M
 list_nodes_spec =

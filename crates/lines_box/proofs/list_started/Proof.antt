@@ -11,10 +11,9 @@ insert-list-requires c κs = search rules
 
 write-listed-requires : tie.Need-write_listed-requires
 write-listed-requires c κs =
-    let s = c.before.before.before.before.before.before.before.before.before.before.before.before.before.before.before.before.before.before.before.before.before.before.before.before in
-    let a = s.args in
-    let L = list_without a.mesh (tables a.points.now a.corners.now a.neighbours.now) a.corrections.now a.work.now a.nodes.now s.requires.2 s.requires.3 c.insert_list-answer.ensures in
-    let l = listed_entries s.requires.0 L in (l.0, l.1, s.requires.1)
+    let a = c.args in
+    let L = list_without a.mesh (tables a.points.now a.corners.now a.neighbours.now) a.corrections.now a.work.now a.nodes.now c.requires.2 c.requires.3 c.insert_list-answer.ensures in
+    let l = listed_entries c.requires.0 L in (l.0, l.1, c.requires.1)
 
 same_length : tie.Need-shape_of-points
 same_length c = search rules
@@ -36,10 +35,9 @@ same-length-6 c = search rules
 
 returns : tie.Need-returns
 returns c =
-    let s = c.before.before.before.before.before.before.before.before.before.before.before.before.before.before.before.before.before.before.before.before.before.before.before.before.before.before.before in
-    let a = s.args in
-    let L = list_without a.mesh (tables a.points.now a.corners.now a.neighbours.now) a.corrections.now a.work.now a.nodes.now s.requires.2 s.requires.3 c.insert_list-answer.ensures in
-    reads_as c.write_listed.ensures (listed_text s.requires.0 L)
+    let a = c.args in
+    let L = list_without a.mesh (tables a.points.now a.corners.now a.neighbours.now) a.corrections.now a.work.now a.nodes.now c.requires.2 c.requires.3 c.insert_list-answer.ensures in
+    reads_as c.write_listed.ensures (listed_text c.requires.0 L)
 
 pub list_started_spec : {M : Type 1} → statement M
 list_started_spec =

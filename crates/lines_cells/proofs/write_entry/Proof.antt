@@ -33,8 +33,7 @@ same_length c = search rules
 
 returns-2 : tie.Need-returns
 returns-2 c =
-    let e = c.before.before.before.before in
-    entry_line _ _ _ _ (sym (is e.before) ∙ e.if-is_freed.false) c.write_cell.ensures
+    entry_line _ _ _ _ (sym (is c.before.before.before.before.before) ∙ c.if-is_freed.false) c.write_cell.ensures
 
 pub write_entry_spec : {M : Type 1} → statement M
 write_entry_spec =

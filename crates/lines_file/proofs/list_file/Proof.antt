@@ -17,10 +17,10 @@ mul-end : tie.Need-overflow_mul-end
 mul-end c = search rules
 
 slice-reshare-prefix-list-nodes : tie.Need-slice_bounds-list_nodes-end
-slice-reshare-prefix-list-nodes c = front_within c.read_nodes-answer.ensures c.answer-1.given.1
+slice-reshare-prefix-list-nodes c = front_within c.read_nodes-answer.ensures c.in-Nodes.is
 
 slice-aggregate-list-nodes : tie.Need-slice_bounds-list_nodes-end-in-Nodes
-slice-aggregate-list-nodes c = front_length c.read_nodes-answer.ensures c.answer-1.given.1
+slice-aggregate-list-nodes c = front_length c.read_nodes-answer.ensures c.in-Nodes.is
 
 list-nodes-requires : tie.Need-list_nodes-requires
 list-nodes-requires c κs = c.requires
@@ -50,7 +50,7 @@ same-length-6 : tie.Need-shape_of-out-in-Nodes
 same-length-6 c = c.list_nodes.auto.out
 
 returns : tie.Need-returns-in-Nodes
-returns c = reads_as c.list_nodes.ensures (read_text_lem c.read_nodes-answer.ensures c.answer-1.given.1 _ _)
+returns c = reads_as c.list_nodes.ensures (read_text_lem c.read_nodes-answer.ensures c.in-Nodes.is _ _)
 
 same-length-7 : tie.Need-shape_of-nodes-in-Refused
 same-length-7 c = c.read_nodes-answer.auto.nodes
@@ -59,7 +59,7 @@ same-length-8 : tie.Need-shape_of-out-in-Refused
 same-length-8 c = c.write_refused.auto.out
 
 returns-2 : tie.Need-returns-in-Refused
-returns-2 c = reads_as c.write_refused.ensures (read_refused_text c.read_nodes-answer.ensures _ _ c.answer-in-Refused-1.given.1)
+returns-2 c = reads_as c.write_refused.ensures (read_refused_text c.read_nodes-answer.ensures _ _ c.in-Refused.is)
 
 pub list_file_spec : {M : Type 1} → statement M
 list_file_spec =

@@ -20,7 +20,7 @@ slice-aggregate-write-kept c = search rules
 write-kept-requires : tie.Need-write_kept-requires
 write-kept-requires c κs =
     let a = c.args in
-    let b = subst (λ r. BothRead a.first.now a.second.now r c.read_both-answer.new.nodes) c.answer-1.given.1 c.read_both-answer.ensures in
+    let b = subst (λ r. BothRead a.first.now a.second.now r c.read_both-answer.new.nodes) c.in-Nodes.is c.read_both-answer.ensures in
     (b.1.few, b.1.nodes_fit)
 
 enum-known-answer-2 : tie.Need-enum_known-answer-in-Refused-1
@@ -32,13 +32,13 @@ same_length c = search rules
 returns : tie.Need-returns-in-Nodes
 returns c =
     let a = c.args in
-    let b = subst (λ r. BothRead a.first.now a.second.now r c.read_both-answer.new.nodes) c.answer-1.given.1 c.read_both-answer.ensures in
-    merge_kept a.first.now a.second.now a.out.now b.0 b.1 c.before.before.before.write-Kept.ensures
+    let b = subst (λ r. BothRead a.first.now a.second.now r c.read_both-answer.new.nodes) c.in-Nodes.is c.read_both-answer.ensures in
+    merge_kept a.first.now a.second.now a.out.now b.0 b.1 c.write_kept.ensures
 
 returns-2 : tie.Need-returns-in-Refused
 returns-2 c =
     let a = c.args in
-    let b = subst (λ r. BothRead a.first.now a.second.now r c.read_both-answer.new.nodes) c.answer-in-Refused-1.given.1 c.read_both-answer.ensures in
+    let b = subst (λ r. BothRead a.first.now a.second.now r c.read_both-answer.new.nodes) c.in-Refused.is c.read_both-answer.ensures in
     merge_refused a.first.now a.second.now a.out.now b.0 b.1
 
 pub merge_spec : {M : Type 1} → statement M

@@ -14,9 +14,8 @@ enum-known-answer c = search rules
 
 read-second-requires : tie.Need-read_second-requires
 read-second-requires c κs =
-    let s = c.before.before.before.before.before.before.before.before.before.before.before in
-    let q = accepted_read s.args.first.now _ (omega (arith, s.requires)) (read_as c.read_nodes-answer.ensures c.answer-1.given.1) in
-    (omega (arith, q.few, ap (λ (h : Header). h.count) q.head), omega (arith, s.requires, c.read_nodes-answer.auto.nodes))
+    let q = accepted_read c.args.first.now _ (omega (arith, c.requires)) (read_as c.read_nodes-answer.ensures c.in-Nodes.is) in
+    (omega (arith, q.few, ap (λ (h : Header). h.count) q.head), omega (arith, c.requires, c.read_nodes-answer.auto.nodes))
 
 enum-known-answer-2 : tie.Need-enum_known-answer-in-Refused-1
 enum-known-answer-2 c = search rules
@@ -26,16 +25,14 @@ same_length c = search rules
 
 returns : tie.Need-returns-in-Nodes
 returns c =
-    let s = c.before.before.before.before.before.before.before.before.before.before.before.before.before.before in
-    both_read s.args.first.now s.args.second.now s.requires (read_as c.read_nodes-answer.ensures c.answer-1.given.1) c.read_second.result _ c.read_second.ensures
+    both_read c.args.first.now c.args.second.now c.requires (read_as c.read_nodes-answer.ensures c.in-Nodes.is) c.read_second.result _ c.read_second.ensures
 
 same-length-2 : tie.Need-shape_of-nodes-in-Refused
 same-length-2 c = search rules
 
 returns-2 : tie.Need-returns-in-Refused
 returns-2 c =
-    let s = c.before.before.before.before.before.before.before.before.before.before in
-    first_refused s.args.first.now s.args.second.now s.requires s.args.nodes.now (read_as c.read_nodes-answer.ensures c.answer-in-Refused-1.given.1)
+    first_refused c.args.first.now c.args.second.now c.requires c.args.nodes.now (read_as c.read_nodes-answer.ensures c.in-Refused.is)
 
 pub read_both_spec : {M : Type 1} → statement M
 read_both_spec =

@@ -47,15 +47,13 @@ same_length c = search rules
 
 returns : tie.Need-returns-then-not-same_sides
 returns c =
-    let s = c.before.before.before.before.before.before.before.before.before.before.before.before in
-    let R = read_as c.read_nodes-answer.ensures c.answer-1.given.1 in
-    second_sides s.args.head s.args.second.now s.args.nodes.now (part_long s) R s.args.nodes.now (test_failed c.same_sides.ensures (not_from_false _ c.if-not-same_sides.true))
+    let R = read_as c.read_nodes-answer.ensures c.in-Nodes.is in
+    second_sides c.args.head c.args.second.now c.args.nodes.now (part_long c.before.before.before.before.before.before.before.before.before.before) R c.args.nodes.now (test_failed c.same_sides.ensures (not_from_false _ c.if-not-same_sides.true))
 
 add-t16 : tie.Need-overflow_add-result
 add-t16 c =
-    let s = c.before.before.before.before.before.before.before.before.before.before.before.before.before.before in
-    let R = read_as c.read_nodes-answer.ensures c.answer-1.given.1 in
-    let q = accepted_read s.args.second.now _ (part_long s) R in
+    let R = read_as c.read_nodes-answer.ensures c.in-Nodes.is in
+    let q = accepted_read c.args.second.now _ (part_long c.before.before.before.before.before.before.before.before.before.before.before.before) R in
     omega (arith, q.few, ap (λ (h : Header). h.count) q.head)
 
 enum-known-answer-2 : tie.Need-enum_known-answer-in-Refused-1
@@ -67,18 +65,16 @@ same-length-2 c = search rules
 returns-2 : tie.Need-returns-else-not-same_sides
 unfolding with_count
 returns-2 c =
-    let s = c.before.before.before.before.before.before.before.before.before.before.before.before.before.before in
-    let R = read_as c.read_nodes-answer.ensures c.answer-1.given.1 in
-    second_read s.args.head s.args.second.now s.args.nodes.now (part_long s) R (test_passed c.same_sides.ensures (not_from_true _ c.if-not-same_sides.false)) refl refl
+    let R = read_as c.read_nodes-answer.ensures c.in-Nodes.is in
+    second_read c.args.head c.args.second.now c.args.nodes.now (part_long c.before.before.before.before.before.before.before.before.before.before.before.before) R (test_passed c.same_sides.ensures (not_from_true _ c.if-not-same_sides.false)) refl refl
 
 same-length-3 : tie.Need-shape_of-nodes-in-Refused
 same-length-3 c = search rules
 
 returns-3 : tie.Need-returns-in-Refused
 returns-3 c =
-    let s = c.before.before.before.before.before.before.before.before.before.before in
-    let R = read_as c.read_nodes-answer.ensures c.answer-in-Refused-1.given.1 in
-    second_refused s.args.head s.args.second.now s.args.nodes.now (part_long s) s.args.nodes.now R
+    let R = read_as c.read_nodes-answer.ensures c.in-Refused.is in
+    second_refused c.args.head c.args.second.now c.args.nodes.now (part_long c.before.before.before.before.before.before.before.before) c.args.nodes.now R
 
 pub read_second_spec : {M : Type 1} → statement M
 read_second_spec =

@@ -83,7 +83,7 @@ returns-4 c =
     let a = c.args in
     let k = c.keep_firsts-count.ensures in
     let w = c.write_file-bytes.ensures in
-    written a.head (positions_in a.head.count a.nodes.now) a.out.now (inside c.before.before.before.before.before.before.before.before.before.before.before) k.count c.if-count-gt1016.false c.if-out-count.false k.front w.0 w.1
+    written a.head (positions_in a.head.count a.nodes.now) a.out.now (inside c.before.before.before.before.before.before.before.before.before.before) k.count c.if-count-gt1016.false c.if-out-count.false k.front w.0 w.1
 
 pub write_kept_spec : {M : Type 1} → statement M
 write_kept_spec =

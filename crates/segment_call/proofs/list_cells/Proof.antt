@@ -27,15 +27,13 @@ start c = c.before.before.before.before.before.before.before.before
 
 first_corner : (c : tie.After-may_hold invariant-loop decreases-loop) → c.may_hold.result ≡ true → get_or c.four_at-k.result 0 0 ≢ none
 first_corner c e =
-    let f = c.before.before in
-    may_hold_first _ _ _ _ (start f).requires.0 _ (omega arith) f.four_at-k.ensures _ (sym c.may_hold.ensures ∙ e)
+    may_hold_first _ _ _ _ (start c.before.before).requires.0 _ (omega arith) c.four_at-k.ensures _ (sym c.may_hold.ensures ∙ e)
 
 test_is : (c : tie.After-may_hold invariant-loop decreases-loop) → let f = c.before.before in let a = (start f).args in
     c.may_hold.result ≡ true → touches_four a.points.now f.four_at-k.result a.a a.b ≡ touches (tables a.points.now a.corners.now []) a.a a.b f.loop-c.c
 test_is c e =
-    let f = c.before.before in
-    let a = (start f).args in
-    touches_is a.points.now a.corners.now [] _ a.a a.b (cell_at _ _ _ _ (start f).requires.0 _ (omega arith) f.four_at-k.ensures _ [] (first_corner c e)).lives f.four_at-k.ensures
+    let a = (start c.before.before).args in
+    touches_is a.points.now a.corners.now [] _ a.a a.b (cell_at _ _ _ _ (start c.before.before).requires.0 _ (omega arith) c.four_at-k.ensures _ [] (first_corner c e)).lives c.four_at-k.ensures
 
 line-codes-requires : tie.Need-line_codes-line-requires invariant-loop decreases-loop
 line-codes-requires c κs = let h = c.requires in (h.0.placed, h.1, h.2)
@@ -54,21 +52,18 @@ slice-aggregate-may-hold c = sym (ap length c.line_codes-line.ensures ∙ line_l
 
 may-hold-requires : tie.Need-may_hold-requires invariant-loop decreases-loop
 may-hold-requires c κs =
-    let f = c.before in
-    codes_there _ _ _ _ (start f).requires.0 _ (omega arith) f.four_at-k.ensures f.line_codes-line.result (ap length f.line_codes-line.ensures ∙ line_length _ _ _ _)
+    codes_there _ _ _ _ (start c.before).requires.0 _ (omega arith) c.four_at-k.ensures c.line_codes-line.result (ap length c.line_codes-line.ensures ∙ line_length _ _ _ _)
 
 slice-aggregate-may-hold-2 : tie.Need-slice_bounds-may_hold-end-then-may_hold invariant-loop decreases-loop
 slice-aggregate-may-hold-2 c = sym (ap length c.range_codes-range.ensures ∙ range_length _ _ _ _)
 
 may-hold-requires-2 : tie.Need-may_hold-requires-then-may_hold invariant-loop decreases-loop
 may-hold-requires-2 c κs =
-    let f = c.before.before.before.before in
-    codes_there _ _ _ _ (start f).requires.0 _ (omega arith) f.four_at-k.ensures f.range_codes-range.result (ap length f.range_codes-range.ensures ∙ range_length _ _ _ _)
+    codes_there _ _ _ _ (start c.before.before.before.before).requires.0 _ (omega arith) c.four_at-k.ensures c.range_codes-range.result (ap length c.range_codes-range.ensures ∙ range_length _ _ _ _)
 
 cell-touches-requires : tie.Need-cell_touches-requires invariant-loop decreases-loop
 cell-touches-requires c κs =
-    let f = c.before.before.before.before.before.before in
-    (cornered_at _ _ _ _ (start f).requires.0 _ (omega arith) f.four_at-k.ensures (first_corner c.before.before.before.before c.if-may_hold.true), (start f).requires.1, (start f).requires.2)
+    (cornered_at _ _ _ _ (start c.before.before.before.before.before.before).requires.0 _ (omega arith) c.four_at-k.ensures (first_corner c.before.before.before.before c.if-may_hold.true), (start c.before.before.before.before.before.before).requires.1, (start c.before.before.before.before.before.before).requires.2)
 
 cast-found : tie.Need-overflow_cast-found invariant-loop decreases-loop
 cast-found c = record { fits = omega (arith, (start c.before.before.before.before.before.before.before.before).requires.0.celled.cells_few) }
@@ -95,20 +90,19 @@ loop-less c = omega arith
 
 loop-again : tie.Need-loop-c-preserved invariant-loop decreases-loop
 loop-again c =
-    let f = c.before.before.before in
-    let s = start f in
+    let s = start c.before.before.before in
     let S = s.requires.0 in
     let a = s.args in
-    let L = f.loop-c.invariant.1 in
-    let e = f.four_at-k.ensures in (
+    let L = c.loop-c.invariant.1 in
+    let e = c.four_at-k.ensures in (
       omega arith,
       ⊎_elim
           (λ w. listing_as _ _ _ _ (listing_more _ _ _ _ L (sym (w.cell_touches.ensures ∙ test_is c.before w.if-may_hold.true) ∙ w.if-cell_touches.true) (omega (arith, s.requires.3))) w.count-is w.found-is)
           (⊎_elim
           (λ w. listing_as _ _ _ _ (listing_same _ _ _ _ L (sym (w.cell_touches.ensures ∙ test_is c.before w.if-may_hold.true) ∙ w.if-cell_touches.false)) w.count-is w.found-is)
           (⊎_elim
-          (λ w. listing_as _ _ _ _ (listing_same _ _ _ _ L (range_out _ _ [] _ _ S _ (omega arith) a.a a.b e f.range_codes-range.ensures (sym w.may_hold-then-may_hold.ensures ∙ w.if-may_hold-2.false))) w.count-is w.found-is)
-          (λ w. listing_as _ _ _ _ (listing_same _ _ _ _ L (line_out _ _ [] _ _ S _ (omega arith) a.a a.b e f.line_codes-line.ensures (sym c.may_hold.ensures ∙ w.if-may_hold.false))) w.count-is w.found-is)))
+          (λ w. listing_as _ _ _ _ (listing_same _ _ _ _ L (range_out _ _ [] _ _ S _ (omega arith) a.a a.b e c.range_codes-range.ensures (sym w.may_hold-then-may_hold.ensures ∙ w.if-may_hold-2.false))) w.count-is w.found-is)
+          (λ w. listing_as _ _ _ _ (listing_same _ _ _ _ L (line_out _ _ [] _ _ S _ (omega arith) a.a a.b e c.line_codes-line.ensures (sym c.may_hold.ensures ∙ w.if-may_hold.false))) w.count-is w.found-is)))
           c.if-may_hold.branch-raw,
     )
 

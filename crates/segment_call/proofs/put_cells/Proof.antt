@@ -55,9 +55,8 @@ same_length c = c.loop-i.invariant.1
 returns-2 : tie.Need-returns invariant-loop decreases-loop
 returns-2 c =
     let l = c.loop-i in
-    let s = c.before.before.before in
     let e = le-ltb _ _ c.if-out-count.false in
-    (rw e refl, rw e (copied s.args.count l.i s.args.found.now s.args.out.now s.requires.0 (omega arith) l.invariant.2))
+    (rw e refl, rw e (copied c.args.count l.i c.args.found.now c.args.out.now c.requires.0 (omega arith) l.invariant.2))
 
 pub put_cells_spec : {M : Type 1} → statement M
 put_cells_spec =

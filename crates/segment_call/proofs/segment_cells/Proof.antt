@@ -22,7 +22,7 @@ abbrev lent : tie.After-mesh_refusal-refusal → Tables
 lent c = let a = (start c).args in tables a.points.now a.corners.now a.neighbours.now
 
 none : (c : tie.Else-refusal-ne0) → let a = (start c.before).args in mesh_refusal a.mesh (lent c.before) (length a.work.now) false ≡ 0
-none c = let r = c.before in let a = (start r).args in sym (as_lent a.mesh (lent r) a.work.now a.a a.b a.out.now r.clear.ensures r.mesh_refusal-refusal.ensures) ∙ c.if-refusal-ne0.false
+none c = let a = (start c.before).args in sym (as_lent a.mesh (lent c.before) a.work.now a.a a.b a.out.now c.clear.ensures c.mesh_refusal-refusal.ensures) ∙ c.if-refusal-ne0.false
 
 first_inside : (c : tie.Else-not-in_box) → let a = (start c.before.before.before).args in in_box a.mesh.x a.mesh.y a.mesh.z a.a ≡ true
 first_inside c = test_passed c.in_box.ensures (not_from_true _ c.if-not-in_box.false)
@@ -40,7 +40,7 @@ same_length : tie.Need-shape_of-work-then-refusal-ne0
 same_length c = search rules
 
 returns : tie.Need-returns-then-refusal-ne0
-returns c = let r = c.before in let s = start r in let a = s.args in mesh_refused a.mesh (lent r) a.work.now a.a a.b a.out.now r.clear.ensures r.mesh_refusal-refusal.ensures c.if-refusal-ne0.true
+returns c = let s = start c.before in let a = s.args in mesh_refused a.mesh (lent c.before) a.work.now a.a a.b a.out.now c.clear.ensures c.mesh_refusal-refusal.ensures c.if-refusal-ne0.true
 
 in-box-requires : tie.Need-in_box-requires
 in-box-requires c κs = search rules
@@ -49,7 +49,7 @@ same-length-2 : tie.Need-shape_of-work-then-not-in_box
 same-length-2 c = search rules
 
 returns-2 : tie.Need-returns-then-not-in_box
-returns-2 c = let r = c.before.before.before in let s = start r in let a = s.args in first_outside a.mesh (lent r) a.work.now a.a a.b a.out.now r.clear.ensures (none c.before.before) (test_failed c.in_box.ensures (not_from_false _ c.if-not-in_box.true))
+returns-2 c = let s = start c.before.before.before in let a = s.args in first_outside a.mesh (lent c.before.before.before) a.work.now a.a a.b a.out.now c.clear.ensures (none c.before.before) (test_failed c.in_box.ensures (not_from_false _ c.if-not-in_box.true))
 
 in-box-requires-2 : tie.Need-in_box-requires-2
 in-box-requires-2 c κs = search rules
@@ -58,7 +58,7 @@ same-length-3 : tie.Need-shape_of-work-then-not-in_box-2
 same-length-3 c = search rules
 
 returns-3 : tie.Need-returns-then-not-in_box-2
-returns-3 c = let r = c.before.before.before.before.before in let s = start r in let a = s.args in second_outside a.mesh (lent r) a.work.now a.a a.b a.out.now r.clear.ensures (none c.before.before.before.before) (first_inside c.before.before) (test_failed c.in_box-2.ensures (not_from_false _ c.if-not-in_box-2.true))
+returns-3 c = let s = start c.before.before.before.before.before in let a = s.args in second_outside a.mesh (lent c.before.before.before.before.before) a.work.now a.a a.b a.out.now c.clear.ensures (none c.before.before.before.before) (first_inside c.before.before) (test_failed c.in_box-2.ensures (not_from_false _ c.if-not-in_box-2.true))
 
 cast-list-cells : tie.Need-overflow_cast-mesh
 cast-list-cells c = search rules
@@ -68,18 +68,15 @@ cast-list-cells-2 c = search rules
 
 list-cells-requires : tie.Need-list_cells-count-requires
 list-cells-requires c κs =
-    let r = c.before.before.before.before.before.before.before.before in
     let p = passed _ _ _ false (none c.before.before.before.before.before.before.before) in
-    (solid _ _ _ _ _ p, in_range_lem _ _ _ p (first_inside c.before.before.before.before.before), in_range_lem _ _ _ p (second_inside c.before.before.before), subst (λ n. (start r).args.mesh.used ≤ n) (sym r.clear.auto.s) (work_room _ _ _ p))
+    (solid _ _ _ _ _ p, in_range_lem _ _ _ p (first_inside c.before.before.before.before.before), in_range_lem _ _ _ p (second_inside c.before.before.before), subst (λ n. (start c.before.before.before.before.before.before.before.before).args.mesh.used ≤ n) (sym c.clear.auto.s) (work_room _ _ _ p))
 
 put-cells-requires : tie.Need-put_cells-answer-requires
 put-cells-requires c κs =
-    let r = c.before.before.before.before.before.before.before.before.before.before.before.before.before in
-    let a = (start r).args in
-    let p = passed _ _ _ false (none c.before.before.before.before.before.before.before.before.before.before.before.before) in
-    let L = c.before.before.before.before in
-    let few : L.list_cells-count.result ≤ a.mesh.used = subst (λ n. n ≤ a.mesh.used) (sym L.list_cells-count.ensures.0) (cells_few _ _ a.a a.b) in (
-      subst (λ n. L.list_cells-count.result ≤ n) (sym (L.list_cells-count.auto.found ∙ r.clear.auto.s)) (omega (arith, few, work_room _ _ _ p)),
+    let a = (start c.before.before.before.before.before.before.before.before.before.before.before.before).args in
+    let p = passed _ _ _ false (none c.before.before.before.before.before.before.before.before.before.before.before) in
+    let few : c.list_cells-count.result ≤ a.mesh.used = subst (λ n. n ≤ a.mesh.used) (sym c.list_cells-count.ensures.0) (cells_few _ _ a.a a.b) in (
+      subst (λ n. c.list_cells-count.result ≤ n) (sym (c.list_cells-count.auto.found ∙ c.clear.auto.s)) (omega (arith, few, work_room _ _ _ p)),
       omega (arith, few, (solid _ _ _ _ _ p).celled.cells_few),
     )
 
@@ -94,14 +91,12 @@ same-length-5 c = search rules
 
 returns-4 : tie.Need-returns
 returns-4 c =
-    let r = c.before.before.before.before.before.before.before.before.before.before.before.before.before.before.before.before.before.before.before.before in
-    let s = start r in
+    let s = start c.before.before.before.before.before.before.before.before.before.before.before.before.before.before.before.before.before.before.before in
     let a = s.args in
-    let L = c.before.before.before.before.before.before.before.before.before.before.before in
     let e = bare_cells a.points.now a.corners.now a.neighbours.now a.mesh.used a.a a.b in
-    listed a.mesh (lent r) a.work.now a.a a.b a.out.now r.clear.ensures (none c.before.before.before.before.before.before.before.before.before.before.before.before.before.before.before.before.before.before.before) (first_inside c.before.before.before.before.before.before.before.before.before.before.before.before.before.before.before.before.before) (second_inside c.before.before.before.before.before.before.before.before.before.before.before.before.before.before.before)
-    (L.list_cells-count.ensures.0 ∙ ap length e) (L.list_cells-count.ensures.1 ∙ ap (λ l. over l r.clear.new.s) e)
-    c.put_cells-answer.ensures.0 c.put_cells-answer.ensures.1 L.list_cells-count.auto.found c.clear-2.ensures
+    listed a.mesh (lent c.before.before.before.before.before.before.before.before.before.before.before.before.before.before.before.before.before.before.before) a.work.now a.a a.b a.out.now c.clear.ensures (none c.before.before.before.before.before.before.before.before.before.before.before.before.before.before.before.before.before.before) (first_inside c.before.before.before.before.before.before.before.before.before.before.before.before.before.before.before.before) (second_inside c.before.before.before.before.before.before.before.before.before.before.before.before.before.before)
+    (c.list_cells-count.ensures.0 ∙ ap length e) (c.list_cells-count.ensures.1 ∙ ap (λ l. over l c.clear.new.s) e)
+    c.put_cells-answer.ensures.0 c.put_cells-answer.ensures.1 c.list_cells-count.auto.found c.clear-2.ensures
 
 pub segment_cells_spec : {M : Type 1} → statement M
 segment_cells_spec =

@@ -27,7 +27,7 @@ returns c b =
     passed_by (number_none b _ _ p.1 p.2 (sym c.new_number-slot.ensures ∙ c.if-slot.true)) refl refl
 
 new-cell-requires : tie.Need-new_cell-cell-requires
-new-cell-requires c κs = let p = c.requires in (p.0, visible_face c.before.before, p.3)
+new-cell-requires c κs = let p = c.requires in (p.0, visible_face c, p.3)
 
 cast-put-cell : tie.Need-overflow_cast-slot
 cast-put-cell c = search rules
@@ -36,8 +36,8 @@ put-cell-requires : tie.Need-put_cell-requires
 put-cell-requires c κs =
     let p = c.requires in
     let b = p.0 in
-    let F = visible_face c.before.before.before.before.before in
-    let e = slot c.before.before.before.before.before b in (
+    let F = visible_face c.before.before.before in
+    let e = slot c.before.before.before b in (
       slot_corners b _ _ F _ e,
       slot_neighbours b _ _ F _ e,
       omega (arith, set_below _ _ _ p.1, standing_few b.standing),
@@ -53,8 +53,8 @@ same-length-2 c = search rules
 
 returns-2 : tie.Need-returns
 returns-2 c b =
-    let F = visible_face c.before.before.before.before.before.before.before.before.before.before in
-    let e = slot c.before.before.before.before.before.before.before.before.before.before b in
+    let F = visible_face c.before.before.before.before.before.before.before.before in
+    let e = slot c.before.before.before.before.before.before.before.before b in
     let r = c.new_cell-cell in
     let q = c.put_cell.ensures in
     starred (facing b _ _ F) (face_starred b _ _ F _ _ (r.ensures b) _ e q.0 q.1)
