@@ -96,7 +96,7 @@ returns-2 c =
     let z = c.if-refusal-ne0.false in
     let S = T.ensures.starable z in
     let G = c.insert_allowed.ensures in
-    (G.0 _ S, λ r. scratch_after S (G.1 r) (T.ensures.notes z) (T.auto.1.1.1.1.1.1.1.1.1.1.0 ∙ p.4.exposed))
+    (G.0 _ S, λ r. scratch_after S (G.1 r) (T.ensures.notes z) (T.auto.exposed ∙ p.4.exposed))
 
 pub attempt_node_spec : {M : Type 1} → statement M
 attempt_node_spec =

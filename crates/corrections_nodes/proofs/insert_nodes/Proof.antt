@@ -95,9 +95,9 @@ loop-again c =
     let L = node_read c.point_at.ensures a.ensures.0 in
     let q = c.in-Accepted.is in (
       omega (arith, more),
-      one_more v.1 L q (omega (arith, more)) a.auto.1.0 a.auto.1.1.0 a.auto.1.1.1.0,
+      one_more v.1 L q (omega (arith, more)) a.auto.points a.auto.corners a.auto.neighbours,
       scratch_next v.1 L q a.ensures.1,
-      a.auto.1.1.1.1.1.1.1.1.1.1.1.1.1.1.1.1.1.0 ∙ v.3,
+      a.auto.slots ∙ v.3,
     )
 
 cast-t52 : tie.Need-overflow_cast-result-2 invariant-loop decreases-loop

@@ -17,7 +17,7 @@ replace-cavity-requires c κs =
     let p = c.requires in
     let r = c.take_slots-left in
     let e = r.ensures (supply p.0.starable) in
-    to_replace p.0.starable (r.auto.1.1.1.1.0 ∙ p.1) e.0 e.1
+    to_replace p.0.starable (r.auto.slots ∙ p.1) e.0 e.1
 
 clear-states-requires : tie.Need-clear_states-requires
 clear-states-requires c κs = listed c.requires.0.starable
@@ -49,7 +49,7 @@ unfolding supply to_replace
 returns c =
     let p = c.requires in
     let r = c.take_slots-left in
-    let long = r.auto.1.1.1.1.0 ∙ p.1 in
+    let long = r.auto.slots ∙ p.1 in
     let done = c.replace_cavity-chain.ensures in (
       λ bytes S. (let e = r.ensures (supply S) in let q = done (to_replace S long e.0 e.1) in starred S q.1 e.2 c.accepted.ensures q.0),
       c.clear_states.ensures,

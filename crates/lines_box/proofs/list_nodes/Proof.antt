@@ -34,7 +34,7 @@ list-started-requires c κs =
     let k = long_enough t zeros (omega (arith, length-replicate 3072 (pos 0))) in
     let S = start_without a.x a.y a.z t zeros a.work.now k f.ensures in
     let e = c.in-Accepted.is in
-    (from_start S e, c.requires, long_enough _ _ (omega (arith, f.auto.1.1.1.1.1.1.1.0, length-replicate 3072 (pos 0))), start_in_range a.x a.y a.z t zeros a.work.now k f.ensures e)
+    (from_start S e, c.requires, long_enough _ _ (omega (arith, f.auto.corrections, length-replicate 3072 (pos 0))), start_in_range a.x a.y a.z t zeros a.work.now k f.ensures e)
 
 enum-known-answer-2 : tie.Need-enum_known-answer-in-Refused-1
 enum-known-answer-2 c = search rules
