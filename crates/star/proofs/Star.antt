@@ -15,7 +15,7 @@ use Rattle.arith.proofs.Flags.{split, clash}
 use Rattle.arith.proofs.Tables.{tabulate_at, tabulate_length, first_is, first_none, find}
 use Rattle.arith.proofs.Counting.{select_length, select_at, select_picks, Picked, count_lt, count_le, count_one}
 use Rattle.geometry.specs.declared.Position.{Position}
-use Rattle.mesh.specs.Tables.{Tables, none, cell_of, opposite, point, corner, across, live, IsCell, IsFace}
+use Rattle.mesh.specs.Tables.{Tables, none, cell_of, opposite, corner, across, live, IsCell, IsFace}
 use Rattle.mesh.specs.Chain.{Spare}
 use Rattle.mesh.proofs.Room.{Room}
 use Rattle.mesh.proofs.Chains.{not_longer}

@@ -32,11 +32,10 @@ same-length-2 : tie.Need-shape_of-exposed
 same-length-2 c = search rules
 
 returns : tie.Need-returns
-returns c =
-    (
-      ap (set c.args.faces.now c.args.c) (c.code_of.ensures ∙ ap kinds_code c.face_kinds-k.ensures),
-      c.mark_faces.ensures ∙ ap₂ (with_faces 4 c.args.exposed.now) c.face_kinds-k.ensures c.four_at.ensures,
-    )
+returns c = (
+  ap (set c.args.faces.now c.args.c) (c.code_of.ensures ∙ ap kinds_code c.face_kinds-k.ensures),
+  c.mark_faces.ensures ∙ ap₂ (with_faces 4 c.args.exposed.now) c.face_kinds-k.ensures c.four_at.ensures,
+)
 
 pub inspect_spec : {M : Type 1} → statement M
 inspect_spec =

@@ -1,7 +1,6 @@
 use Rattle.lines_cells.proofs.write_corners.Statement.{statement}
 use Rattle.lines_cells.proofs.write_corners.Tie as tie
 use Prim.Native.Nat.{◌+◌, ◌*◌, ◌-◌}
-use mathlib.Core.Path.{refl}
 use mathlib.Core.List.{◌∷◌}
 use native.Mathlib.Omega.{arith}
 use lib.ListN.{get_or}
