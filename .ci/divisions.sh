@@ -3,7 +3,7 @@
 # gantry_correction: three divisions at most on a path, no remainder that one leaves is read, and nothing else in the archive divides.
 # Counted by paths: beside each division of 64 bits the back end puts one of 32, for numbers that fit, and takes one of the two.
 # Then the same of the rounding alone in an archive, as it is, and of wrong builds of it, .ci/divisions/NAME.patch. Their numbers are
-# right, and they are proved: this must refuse them. Before: rt staticlib gantry.
+# right, and they are proved: this must refuse them. Before: rt lib in crates/gantry.
 set -uo pipefail
 cd "$(dirname "$0")/.." || exit 1
 scratch=$(mktemp -d)
@@ -24,7 +24,7 @@ refused() {
     echo "divisions: the wrong build $1 is refused: $(sed 's/^divisions: //' "$scratch/why")"
 }
 
-count target/staticlib/libgantry.a || exit 1
+count crates/gantry/out/libgantry.a || exit 1
 bash .ci/divisions/alone.sh "$scratch/right.a" || exit 1
 count "$scratch/right.a" > "$scratch/said" || { cat "$scratch/said"; exit 1; }
 echo "divisions: the rounding alone: $(tail -n 1 "$scratch/said" | sed 's/^divisions: //')"

@@ -3,7 +3,7 @@
 #
 # In a block ```console, '$ ' begins a command and '> ' carries it on; the other lines are its output, standard error too; one line
 # '...' may stand for any lines. A command ends with status 0, unless the next one is 'echo $?'. A block ```LANGUAGE FILE is written
-# to FILE. Before: rt ci, which proves what is then only built.
+# to FILE. Before: rt lib in crates/gantry and rt run in crates/listing, so that what is proved is then only built.
 set -u
 cd "$(dirname "$0")/.." || exit 1
 . .ci/environment || exit 1
@@ -15,7 +15,7 @@ export CARGO_INSTALL_ROOT=$work/installed
 export PATH=$CARGO_INSTALL_ROOT/bin:$PATH
 documents=(README.md docs/transcripts/*.md docs/MANUAL.md)
 # What the sessions use of a clone. Files that a reader has made beside these are not linked, so none is written to.
-entries=(crates crates.txt docs examples include rust target)
+entries=(crates crates.txt docs examples include rust)
 
 # as_shown: whether $work/printed is as $work/shown says
 as_shown() {

@@ -8,7 +8,7 @@ out=$root/target/c
 
 cd "$root"
 mkdir -p "$out"
-rt staticlib gantry >"$out/staticlib.log" 2>&1 || { tail -n 20 "$out/staticlib.log"; exit 1; }
+(cd crates/gantry && rt lib) >"$out/lib.log" 2>&1 || { tail -n 20 "$out/lib.log"; exit 1; }
 
 # build NAME STANDARD COMPILER..
 build() {
@@ -17,7 +17,7 @@ build() {
     std=$2
     shift 2
     "$@" "-std=$std" -Wall -Wextra -pedantic -Werror -O2 -I include -c "$source" -o "$program.o"
-    "$1" "$program.o" target/staticlib/libgantry.a -o "$program"
+    "$1" "$program.o" crates/gantry/out/libgantry.a -o "$program"
 }
 
 # prints NAME STANDARD WORDS..: what NAME.txt has

@@ -1,7 +1,7 @@
 #!/usr/bin/env bash
 # Runs three programs on each node file here, the proved listing, the command gantry over the archive and the plain build's, and
 # compares what each prints with NAME.txt, or, where a listing runs to thousands of lines, with its checksum in NAME.sum. Before: rt
-# check listing, rt staticlib gantry. The status is 0 only where nothing differs.
+# ci, or rt run in crates/listing, and rt lib in crates/gantry. The status is 0 only where nothing differs.
 set -uo pipefail
 cd "$(dirname "$0")" || exit 1
 . ../../.ci/environment || exit 1
@@ -12,7 +12,7 @@ trap 'rm -r "$work"' EXIT
 differ=0
 compared=0
 
-proved() { ../../target/bin/listing; }
+proved() { ../../crates/listing/out/listing; }
 plain() { "$built/plain_listing"; }
 
 # The command ends with status 1 and a message just where a listing is one of a refusal or a stop.

@@ -1,4 +1,4 @@
-//! Finds the archive: in the directory that GANTRY_ARCHIVE_DIR names, else where `rt staticlib gantry` puts it.
+//! Finds the archive: in the directory that GANTRY_ARCHIVE_DIR names, else where `rt lib` in crates/gantry puts it.
 
 use std::path::{Path, PathBuf};
 
@@ -9,7 +9,7 @@ fn archive_dir() -> PathBuf {
     let here = || std::env::var_os("CARGO_MANIFEST_DIR").unwrap_or_default();
     match std::env::var_os(VARIABLE) {
         Some(dir) => PathBuf::from(dir),
-        None => Path::new(&here()).join("../../target/staticlib"),
+        None => Path::new(&here()).join("../../crates/gantry/out"),
     }
 }
 
@@ -20,7 +20,7 @@ fn main() {
     println!("cargo::rerun-if-changed={}", archive.display());
     if !archive.is_file() {
         println!(
-            "cargo::error=no archive {}: build it with 'rt staticlib gantry' at the top of the repository, \
+            "cargo::error=no archive {}: build it with 'rt lib' in crates/gantry, \
              or set {VARIABLE} to the directory (absolute) that holds libgantry.a",
             archive.display()
         );

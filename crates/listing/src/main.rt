@@ -2,22 +2,36 @@
 
 #![tactic(auto)]
 
+ghost use Rattle.std.specs.Prelude.{IfOk, ◌≤◌, length};
+
 use lines_listing::listing;
 use nodefile::Written;
+use std::io;
+use std::io::Read;
 
-fn main() {
+// Reads until the buffer is full or the input ends, and answers how many bytes it has.
+fn read_full(input: &mut impl Read, buffer: &mut [u8]) -> io::Result<usize>
+    ensures { IfOk result (λ got. got ≤ length buffer.new) }
+{
+    let mut got = 0;
+    while got < buffer.len() {
+        let more = input.read(&mut buffer[got..])?;
+        if more == 0 {
+            break;
+        }
+        got += more;
+    }
+    Ok(got)
+}
+
+fn main(rt: HostRuntime) -> io::Result<()> {
     // One byte more than is accepted, so that a longer input shows.
     let mut file = [0u8; 65537];
     // As many bytes as the longest listing has.
     let mut out = [0u8; 409600];
-    let got = io::read_full(0, &mut file);
-    let answer = listing(&file[..got], &mut out);
-    match answer {
-        Written::Bytes(length) => {
-            io::write_all(1, &out[..length as usize]);
-        }
-        Written::Refused(_) => {
-            io::write_all(2, b"listing: the output is too short\n");
-        }
+    let got = read_full(&mut rt.stdin(), &mut file)?;
+    match listing(&file[..got], &mut out) {
+        Written::Bytes(length) => rt.stdout().write_all(&out[..length as usize]),
+        Written::Refused(_) => rt.stderr().write_all(b"listing: the output is too short\n"),
     }
 }
