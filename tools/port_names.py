@@ -67,7 +67,7 @@ def table():
         for word in set(re.findall(WORD, text)) & set(kinds):
             met[word] |= names & {snake(word)}
     rows, lemmas = {}, {}
-    camel = {snake(n) for n in kinds if re.match("[a-z].*[a-z0-9][A-Z]", n)}
+    camel = {snake(n) for n in kinds if re.match("[a-z].*[a-z0-9][A-Z]", n) and "-" not in n}
     for name, of in kinds.items():
         if "type" in of or re.match("[A-Z]", name) and name not in LAWS:
             continue
@@ -97,8 +97,8 @@ def libraries(text):
 # Names of a clause or of a constructor where no definition of the same spelling is near.
 BY_CRATE = {("on-wall", "calls"), ("on-wall", "pieces")}
 # One that is spelled like a field, and isn't one.
-NO_FIELD = {("in-range", "geometry")}
-BY_NAME = {"first_three": ("crates/insertion/", "first_three_lem"), "on-sphere": ("crates/pieces_even/", "eight_on_sphere")}
+NO_FIELD = {("in-range", "crates/geometry/"), ("in-range", "crates/mesh/proofs/Valid.antt")}
+BY_NAME = {"first_three": (("crates/insertion/", "crates/corrections/"), "first_three_lem"), "on-sphere": ("crates/pieces_even/", "eight_on_sphere")}
 
 
 class Turner:
@@ -117,7 +117,7 @@ class Turner:
         crate = path.split("/")[1]
         if (word, crate) in BY_CRATE:
             return self.rows[word]
-        if "field" not in kinds or (word, crate) in NO_FIELD:
+        if "field" not in kinds or any(word == it and path.startswith(of) for it, of in NO_FIELD):
             return lemma
         named = before.endswith(".") or after.startswith(" :") and re.search(r"^ +pub $", before)
         set_to = after.startswith(" =") and re.search(r"(?:[{;]\s*|^ +)$", before) and not re.search(rf"(?m)^{re.escape(before)}{re.escape(word)} :", above)

@@ -25,12 +25,12 @@ module _ (A : Type 0) (◌+◌ ◌-◌ ◌*◌ : A → A → A) where
   squared_of a p = (a.x - p.x) * (a.x - p.x) + (a.y - p.y) * (a.y - p.y) + (a.z - p.z) * (a.z - p.z)
 
   -- the sum over the corners of the determinant with that corner replaced by p, times the corner's squared distance from p
-  abbrev pub in_sphere_of_lem : Vector A → Vector A → Vector A → Vector A → Vector A → A
-  in_sphere_of_lem a b c d p =
+  abbrev pub in_sphere_of : Vector A → Vector A → Vector A → Vector A → Vector A → A
+  in_sphere_of a b c d p =
       det4_of p b c d * squared_of a p + det4_of a p c d * squared_of b p + det4_of a b p d * squared_of c p + det4_of a b c p * squared_of d p
 
 abbrev pub det4 : Vector ℤ → Vector ℤ → Vector ℤ → Vector ℤ → ℤ
 det4 = det4_of ℤ ◌+ℤ◌ ◌-ℤ◌ ◌*ℤ◌
 
 abbrev pub in_sphere : Vector ℤ → Vector ℤ → Vector ℤ → Vector ℤ → Vector ℤ → ℤ
-in_sphere = in_sphere_of_lem ℤ ◌+ℤ◌ ◌-ℤ◌ ◌*ℤ◌
+in_sphere = in_sphere_of ℤ ◌+ℤ◌ ◌-ℤ◌ ◌*ℤ◌

@@ -16,7 +16,7 @@ use borrow.Author.Tests.{eq-eqb, ne_eqb, lt-ltb, le-ltb, ltb-false}
 use Rattle.arith.specs.Table.{count_below}
 use Rattle.arith.proofs.Flags.{split, clash, fails}
 use Rattle.arith.proofs.Counting.{count_added, count_le}
-use Rattle.arith.proofs.Order.{lt_z_true_lem, lt_lt_z_lem, lt_z_no_le_z_lem, le_z_true_lem, <-≤-trans, arithℤ}
+use Rattle.arith.proofs.Order.{lt_z_true, lt_lt_z, lt_z_no_le_z, le_z_true, <-≤-trans, arithℤ}
 use Rattle.rounding.specs.Whole.{IsInt}
 use Rattle.rounding.proofs.Whole.{lt_int}
 use Rattle.geometry.specs.declared.Position.{Position}
@@ -76,11 +76,11 @@ module _ {T : ℕ → Float} {t : Tables} {n : ℕ} (W : Values T t n) where
   below_then : (a b c : ℕ) → IsCell t n a → IsCell t n b → IsCell t n c → lt (T a) (T b) ≡ true → lt (T c) (T b) ≡ false → lt (T a) (T c) ≡ true
   below_then a b c ha hb hc e f =
       order a c ha hc ∙
-      lt_lt_z_lem (<-≤-trans (lt_z_true_lem (W a ha).0 (W b hb).0 (sym (order a b ha hb) ∙ e))
-      (le_z_true_lem (W b hb).0 (W c hc).0 (lt_z_no_le_z_lem (W b hb).0 (W c hc).0 (sym (order c b hc hb) ∙ f))))
+      lt_lt_z (<-≤-trans (lt_z_true (W a ha).0 (W b hb).0 (sym (order a b ha hb) ∙ e))
+      (le_z_true (W b hb).0 (W c hc).0 (lt_z_no_le_z (W b hb).0 (W c hc).0 (sym (order c b hc hb) ∙ f))))
 
   not_both : (a b : ℕ) → IsCell t n a → IsCell t n b → lt (T a) (T b) ≡ true → lt (T b) (T a) ≡ false
-  not_both a b ha hb e = fails (lt (T b) (T a)) (λ h. no (W a ha).0 (W b hb).0 (lt_z_true_lem (W a ha).0 (W b hb).0 (sym (order a b ha hb) ∙ e)) (lt_z_true_lem (W b hb).0 (W a ha).0 (sym (order b a hb ha) ∙ h)))
+  not_both a b ha hb e = fails (lt (T b) (T a)) (λ h. no (W a ha).0 (W b hb).0 (lt_z_true (W a ha).0 (W b hb).0 (sym (order a b ha hb) ∙ e)) (lt_z_true (W b hb).0 (W a ha).0 (sym (order b a hb ha) ∙ h)))
     where
       no : (x y : ℤ) → x <ℤ y → y <ℤ x → ⊥
       no x y h k = omega (arithℤ, h, k)

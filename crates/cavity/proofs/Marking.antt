@@ -15,7 +15,7 @@ use borrow.Author.Tests.{eq-eqb, ne_eqb, lt-ltb, le-ltb}
 use mir.Val.{bool_byte}
 use Rattle.arith.specs.Table.{tabulate, fill, all_below}
 use Rattle.arith.proofs.Flags.{fails}
-use Rattle.arith.proofs.Order.{le_z_not_lem}
+use Rattle.arith.proofs.Order.{le_z_not}
 use Rattle.arith.proofs.Tables.{tabulate_at}
 use Rattle.geometry.specs.declared.Position.{Position}
 use Rattle.geometry.specs.declared.Volumes.{Volumes}
@@ -155,10 +155,10 @@ module _ (t : Tables) (n : ℕ) (n≤ : n ≤ 4096) (p : Position) (st : List �
       b = lt_z (side t p (4 * c + k)) (pos 0)
 
       low : le_z (side t p (4 * c + k)) (pos 0) ≡ not a
-      low = not_swap (le_z_not_lem (side t p (4 * c + k)) (pos 0))
+      low = not_swap (le_z_not (side t p (4 * c + k)) (pos 0))
 
       high : le_z (pos 0) (side t p (4 * c + k)) ≡ not b
-      high = not_swap (le_z_not_lem (pos 0) (side t p (4 * c + k)))
+      high = not_swap (le_z_not (pos 0) (side t p (4 * c + k)))
 
       go : Dec (u ≡ none) → face_kind st u (side t p (4 * c + k)) ≡ bool_byte (visible t p s (4 * c + k)) + 16 * bool_byte (hidden t p s (4 * c + k))
       go (yes e) = rw (own k h, e, no_cell, low, high) (wall_kind_lem a b)

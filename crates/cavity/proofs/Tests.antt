@@ -11,7 +11,7 @@ use borrow.Author.Tests.{eqb-true, eq-eqb, not-true}
 use Rattle.arith.specs.Table.{any_below}
 use Rattle.arith.proofs.Flags.{clash, and_left, and_right, and_intro, or_cases}
 use Rattle.arith.proofs.Tables.{all_at, all_intro, any_found, Found}
-use Rattle.arith.proofs.Order.{≡→≤, lt_z_true_lem, lt_lt_z_lem, le_z_true_lem, le_le_z_lem}
+use Rattle.arith.proofs.Order.{≡→≤, lt_z_true, lt_lt_z, le_z_true, le_le_z}
 use Rattle.geometry.specs.declared.Position.{Position}
 use Rattle.mesh.specs.Tables.{Tables, none, cell_of, corner, across, side, face_has, live, IsCell}
 use Rattle.mesh.proofs.Links.{on_face_of}
@@ -23,7 +23,7 @@ use Rattle.cavity.specs.Inner.Star.{Exposed}
 use Rattle.mesh.proofs.Checked.{same_is}
 
 zero_yes : (z : ℤ) → z ≡ pos 0 → same_z z (pos 0) ≡ true
-zero_yes z e = and_intro (le_le_z_lem (≡→≤ e)) (le_le_z_lem (≡→≤ (sym e)))
+zero_yes z e = and_intro (le_le_z (≡→≤ e)) (le_le_z (≡→≤ (sym e)))
 
 pub record Outer (t : Tables) (s : List Bool) (f : ℕ) : Type 0 where
   pub held : in_set s (cell_of f) ≡ true
@@ -52,12 +52,12 @@ visible_of t p s f e = record {
   outer? = and_left (outer (across t) (in_set s) f) (lt_z (pos 0) (side t p f)) e;
   held = (outer_of_lem t s f (and_left (outer (across t) (in_set s) f) (lt_z (pos 0) (side t p f)) e)).held;
   free = (outer_of_lem t s f (and_left (outer (across t) (in_set s) f) (lt_z (pos 0) (side t p f)) e)).free;
-  above = lt_z_true_lem (pos 0) (side t p f) (and_right (outer (across t) (in_set s) f) (lt_z (pos 0) (side t p f)) e);
+  above = lt_z_true (pos 0) (side t p f) (and_right (outer (across t) (in_set s) f) (lt_z (pos 0) (side t p f)) e);
 }
 
 pub visible_yes : (t : Tables) (p : Position) (s : List Bool) (f : ℕ) → outer (across t) (in_set s) f ≡ true → pos 0 <ℤ side t p f → visible t p s f ≡ true
 unfolding visible
-visible_yes t p s f h k = and_intro h (lt_lt_z_lem k)
+visible_yes t p s f h k = and_intro h (lt_lt_z k)
 
 pub record Coplanar (t : Tables) (p : Position) (f : ℕ) : Type 0 where
   pub bare : across t f ≡ none
@@ -78,11 +78,11 @@ pub holds_of : (t : Tables) (p : Position) (c : ℕ) → holds t p c ≡ true �
 unfolding holds Holds
 holds_of t p c e k h =
     subst (λ z. pos 0 ≤ℤ z) (side_at_lem t p c k h)
-    (le_z_true_lem (pos 0) (side t p (4 * c + k)) (all_at 4 (λ k. le_z (pos 0) (side t p (4 * c + k))) (and_right (live t c) _ e) k h))
+    (le_z_true (pos 0) (side t p (4 * c + k)) (all_at 4 (λ k. le_z (pos 0) (side t p (4 * c + k))) (and_right (live t c) _ e) k h))
 
 pub holds_yes : (t : Tables) (p : Position) (c : ℕ) → live t c ≡ true → Holds t p c → holds t p c ≡ true
 unfolding holds Holds
-holds_yes t p c a h = and_intro a (all_intro 4 (λ k. le_z (pos 0) (side t p (4 * c + k))) (λ k l. le_le_z_lem (subst (λ z. pos 0 ≤ℤ z) (sym (side_at_lem t p c k l)) (h k l))))
+holds_yes t p c a h = and_intro a (all_intro 4 (λ k. le_z (pos 0) (side t p (4 * c + k))) (λ k l. le_le_z (subst (λ z. pos 0 ≤ℤ z) (sym (side_at_lem t p c k l)) (h k l))))
 
 pub faces_good_lem : (t : Tables) (p : Position) (s : List Bool) (c k : ℕ) → faces_good t p s c ≡ true → k < 4 → outer (across t) (in_set s) (4 * c + k) ≡ true →
     (visible t p s (4 * c + k) ≡ true) ⊎ (coplanar t p (4 * c + k) ≡ true)

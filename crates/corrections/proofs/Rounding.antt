@@ -12,7 +12,7 @@ use lib.Signed.{◌≤ℤ◌, ◌<ℤ◌, lt_z, ≤ℤ_refl}
 use Rattle.arith.proofs.Flags.{bool_ext}
 use Rattle.arith.proofs.Integers.{*-distl-sub}
 use Rattle.arith.proofs.Magnitude.{abs_parts, abs-*}
-use Rattle.arith.proofs.Order.{arithℤ, pos_part, neg_part, Parts, atom, ◌⊞◌, ◌⊠◌, parts_add, parts_sub, parts_mul, parts_neg, total, <→≤, ≡→≤, ≤-<-trans, ≤-antisym, <-irrefl, lt_z_true_lem, lt_lt_z_lem, sub_pos, cancel_pos, *-nonneg, *-neg-l}
+use Rattle.arith.proofs.Order.{arithℤ, pos_part, neg_part, Parts, atom, ◌⊞◌, ◌⊠◌, parts_add, parts_sub, parts_mul, parts_neg, total, <→≤, ≡→≤, ≤-<-trans, ≤-antisym, <-irrefl, lt_z_true, lt_lt_z, sub_pos, cancel_pos, *-nonneg, *-neg-l}
 use Rattle.arith.proofs.Ring.{var, con, ◌⊕◌, ◌⊖◌, ◌⊗◌, ring}
 use Rattle.corrections.specs.Rounding.{Nearest, rounded}
 
@@ -120,8 +120,8 @@ same_ratio s v s' v' h h' e = ap₂ (λ b q. cond b (neg_ℤ (pos q)) (pos q)) s
   where
     sign : lt_z s (pos 0) ≡ lt_z s' (pos 0)
     sign =
-        bool_ext (lt_z s (pos 0)) (lt_z s' (pos 0)) (λ k. lt_lt_z_lem (below_zero s v s' v' h h' e (lt_z_true_lem s (pos 0) k)))
-        (λ k. lt_lt_z_lem (below_zero s' v' s v h' h (sym e) (lt_z_true_lem s' (pos 0) k)))
+        bool_ext (lt_z s (pos 0)) (lt_z s' (pos 0)) (λ k. lt_lt_z (below_zero s v s' v' h h' e (lt_z_true s (pos 0) k)))
+        (λ k. lt_lt_z (below_zero s' v' s v h' h (sym e) (lt_z_true s' (pos 0) k)))
 
     size : (v : ℤ) → pos 0 <ℤ v → 1 ≤ nat_abs v
     size v h = omega (arithℤ, abs_parts v)

@@ -12,7 +12,7 @@ use lib.Signed.{le_z, lt_z, ◌≤ℤ◌, ◌<ℤ◌}
 use Rattle.arith.specs.Table.{sum}
 use Rattle.arith.proofs.Flags.{bool_ext, fails, and_right, split, clash}
 use Rattle.arith.proofs.Magnitude.{abs_parts, parts_abs}
-use Rattle.arith.proofs.Order.{arithℤ, ≤-<-trans, <-irrefl, lt_z_true_lem, le_z_true_lem, le_le_z_lem, lt_z_no_le_z_lem, *-mono-≤-l}
+use Rattle.arith.proofs.Order.{arithℤ, ≤-<-trans, <-irrefl, lt_z_true, le_z_true, le_le_z, lt_z_no_le_z, *-mono-≤-l}
 use Rattle.arith.proofs.Sums.{sum_cong, sum_mono, sum_one, sum_times}
 use Rattle.arith.proofs.Tables.{all_at, any_intro}
 use Rattle.geometry.specs.declared.Position.{Position}
@@ -40,7 +40,7 @@ module _ (t : Tables) (p : Position) (c : ℕ) where
   -- no weight of a cell that holds p is below 0
   pub weight_nonneg : holds t p c ≡ true → (i : ℕ) → i < 4 → pos 0 ≤ℤ side t p (4 * c + i)
   unfolding holds
-  weight_nonneg e i h = le_z_true_lem (pos 0) (side t p (4 * c + i)) (all_at 4 (λ k. le_z (pos 0) (side t p (4 * c + k))) (and_right (live t c) _ e) i h)
+  weight_nonneg e i h = le_z_true (pos 0) (side t p (4 * c + i)) (all_at 4 (λ k. le_z (pos 0) (side t p (4 * c + k))) (and_right (live t c) _ e) i h)
 
   -- together they are the cell's volume
   pub weights_add : sum 4 (λ i. side t p (4 * c + i)) ≡ cell_volume t c
@@ -103,12 +103,12 @@ bounds_in_range d h k = le-leb (nat_abs d) 1000 (parts_abs d 1000 (omega arith�
 
 -- and by the two tests of the code
 pub below_range : (d : ℤ) → lt_z d (negsuc 999) ≡ true → in_range d ≡ false
-below_range d e = fails (in_range d) (λ r. <-irrefl (≤-<-trans (in_range_bounds d r).0 (lt_z_true_lem d (negsuc 999) e)))
+below_range d e = fails (in_range d) (λ r. <-irrefl (≤-<-trans (in_range_bounds d r).0 (lt_z_true d (negsuc 999) e)))
 
 pub not_below_range : (d : ℤ) → lt_z d (negsuc 999) ≡ false → le_z d (pos 1000) ≡ in_range d
 not_below_range d e =
-    bool_ext (le_z d (pos 1000)) (in_range d) (λ k. bounds_in_range d (le_z_true_lem (negsuc 999) d (lt_z_no_le_z_lem (negsuc 999) d e)) (le_z_true_lem d (pos 1000) k))
-    (λ k. le_le_z_lem (in_range_bounds d k).1)
+    bool_ext (le_z d (pos 1000)) (in_range d) (λ k. bounds_in_range d (le_z_true (negsuc 999) d (lt_z_no_le_z (negsuc 999) d e)) (le_z_true d (pos 1000) k))
+    (λ k. le_le_z (in_range_bounds d k).1)
 
 module _ (np : ℕ) (cs : List ℤ) (e : out_of_range np cs ≡ false) where
   -- a table that is not out of range has an entry in range at each place of a point

@@ -15,7 +15,7 @@ use Rattle.arith.specs.Table.{sum}
 use Rattle.arith.proofs.Flags.{below_four}
 use Rattle.arith.proofs.Machine.{back, mach, fits_64, back_64}
 use Rattle.arith.proofs.Magnitude.{abs_parts, parts_abs, abs-+, abs-*, mag_le}
-use Rattle.arith.proofs.Order.{arithℤ, parts_mul, <→≤, le_z_true_lem}
+use Rattle.arith.proofs.Order.{arithℤ, parts_mul, <→≤, le_z_true}
 use Rattle.arith.proofs.Ring.{Expr, var, ◌⊕◌, ◌⊗◌}
 use Rattle.arith.proofs.Tables.{all_at}
 use Rattle.geometry.specs.declared.Volumes.{Volumes}
@@ -77,7 +77,7 @@ module _ (v : Volumes) where
       four_sizes (volume_at v 0) (volume_at v 1) (volume_at v 2) (volume_at v 3) (at 0 (omega arith)) (at 1 (omega arith)) (at 2 (omega arith)) (at 3 (omega arith))
     where
       at : (i : ℕ) → i < 4 → pos 0 ≤ℤ volume_at v i
-      at i l = le_z_true_lem (pos 0) (volume_at v i) (all_at 4 (λ i. le_z (pos 0) (volume_at v i)) e i l)
+      at i l = le_z_true (pos 0) (volume_at v i) (all_at 4 (λ i. le_z (pos 0) (volume_at v i)) e i l)
 
   abbrev pub words : ℤ → ℤ → ℤ → ℤ → List ℤ
   words a b c d = v.v0 ∷ v.v1 ∷ v.v2 ∷ v.v3 ∷ a ∷ b ∷ c ∷ d ∷ []

@@ -11,7 +11,7 @@ use lib.ListN.{get_or, get_or-map}
 use lib.Signed.{◌≤ℤ◌, ◌<ℤ◌, le_z, lt_z}
 use Rattle.arith.specs.Table.{all_below}
 use Rattle.arith.proofs.Flags.{split, and_left, and_right, and_intro, below_four}
-use Rattle.arith.proofs.Order.{arithℤ, le_z_true_lem, le_le_z_lem, lt_z_true_lem, lt_lt_z_lem, *-nonneg, *-pos, *-neg-r, cancel_nonneg, cancel_pos, cancel_zero, <→≤, <-irrefl}
+use Rattle.arith.proofs.Order.{arithℤ, le_z_true, le_le_z, lt_z_true, lt_lt_z, *-nonneg, *-pos, *-neg-r, cancel_nonneg, cancel_pos, cancel_zero, <→≤, <-irrefl}
 use Rattle.arith.proofs.Ring.{var, ◌⊗◌, ring}
 use Rattle.arith.proofs.Tables.{all_at, all_intro}
 use Rattle.geometry.specs.declared.Position.{Position}
@@ -145,11 +145,11 @@ module _ (t : Tables) where
         (λ e k h.
             cancel_nonneg (form t q (4 * c + k)) square
             (subst (λ z. pos 0 ≤ℤ z) (side_form q (4 * c + k))
-            (le_z_true_lem (pos 0) (side_at t q (4 * c + k))
+            (le_z_true (pos 0) (side_at t q (4 * c + k))
             (all_at 4 (λ k. le_z (pos 0) (side_at t q (4 * c + k))) (and_right (live (tables_in_parts q.w t) c) (all_below 4 (λ k. le_z (pos 0) (side_at t q (4 * c + k)))) e) k h)))),
         (λ H.
             and_intro (live_parts q.w c ∙ a)
-            (all_intro 4 (λ k. le_z (pos 0) (side_at t q (4 * c + k))) (λ k h. le_le_z_lem (subst (λ z. pos 0 ≤ℤ z) (sym (side_form q (4 * c + k))) (*-nonneg (<→≤ square) (H k h)))))),
+            (all_intro 4 (λ k. le_z (pos 0) (side_at t q (4 * c + k))) (λ k h. le_le_z (subst (λ z. pos 0 ≤ℤ z) (sym (side_form q (4 * c + k))) (*-nonneg (<→≤ square) (H k h)))))),
       )
 
       pub inside_form : (inside_at t q c ≡ true) ↔ InsideForm t q c
@@ -157,14 +157,14 @@ module _ (t : Tables) where
       inside_form = (
         (λ e k h.
             cancel_pos (form t q (4 * c + k)) square
-            (subst (λ z. pos 0 <ℤ z) (side_form q (4 * c + k)) (lt_z_true_lem (pos 0) (side_at t q (4 * c + k)) (all_at 4 (λ k. lt_z (pos 0) (side_at t q (4 * c + k))) e k h)))),
-        (λ H. all_intro 4 (λ k. lt_z (pos 0) (side_at t q (4 * c + k))) (λ k h. lt_lt_z_lem (subst (λ z. pos 0 <ℤ z) (sym (side_form q (4 * c + k))) (*-pos square (H k h))))),
+            (subst (λ z. pos 0 <ℤ z) (side_form q (4 * c + k)) (lt_z_true (pos 0) (side_at t q (4 * c + k)) (all_at 4 (λ k. lt_z (pos 0) (side_at t q (4 * c + k))) e k h)))),
+        (λ H. all_intro 4 (λ k. lt_z (pos 0) (side_at t q (4 * c + k))) (λ k h. lt_lt_z (subst (λ z. pos 0 <ℤ z) (sym (side_form q (4 * c + k))) (*-pos square (H k h))))),
       )
 
   -- strictly on its side of face 0
   inside_first : (q : Place) (c : ℕ) → inside_at t q c ≡ true → pos 0 <ℤ side_at t q (4 * c + 0)
   unfolding inside_at holds side_at
-  inside_first q c e = lt_z_true_lem (pos 0) (side_at t q (4 * c + 0)) (all_at 4 (λ k. lt_z (pos 0) (side_at t q (4 * c + k))) e 0 (omega arith))
+  inside_first q c e = lt_z_true (pos 0) (side_at t q (4 * c + 0)) (all_at 4 (λ k. lt_z (pos 0) (side_at t q (4 * c + k))) e 0 (omega arith))
 
   -- an entry with a place strictly inside is a cell: a freed one has three times one point on each face
   pub insider_at : (q : Place) {n c : ℕ} → c < n → inside_at t q c ≡ true → IsCell t n c

@@ -10,7 +10,7 @@ use native.Mathlib.Nat.{le_refl}
 use lib.IntN.{ℤ, pos, neg_ℤ, ◌+ℤ◌, ◌-ℤ◌, ◌*ℤ◌, zero-*ℤ, neg_ℤ-neg_ℤ}
 use lib.Signed.{◌<ℤ◌, ◌≤ℤ◌, lt_z}
 use Rattle.arith.specs.Table.{count_below}
-use Rattle.arith.proofs.Order.{arithℤ, ≡→≤, <→≤, <-irrefl, ≤-<-trans, <-≤-trans, trichotomy, total, *-nonneg, *-pos, +-pos, +-nonpos, *-nonpos-r, cancel_pos, cancel_zero, neg_pos, pos_pos, neg-mono-<, le_z_not_lem, le_le_z_lem, lt_z_true_lem, lt_lt_z_lem}
+use Rattle.arith.proofs.Order.{arithℤ, ≡→≤, <→≤, <-irrefl, ≤-<-trans, <-≤-trans, trichotomy, total, *-nonneg, *-pos, +-pos, +-nonpos, *-nonpos-r, cancel_pos, cancel_zero, neg_pos, pos_pos, neg-mono-<, le_z_not, le_le_z, lt_z_true, lt_lt_z}
 use Rattle.arith.proofs.Flags.{and_left, and_right, and_intro}
 use Rattle.arith.proofs.Tables.{find}
 use Rattle.arith.proofs.Counting.{count_lt, count_less}
@@ -140,13 +140,13 @@ module _ {X Y Z pc cc np n : ℕ} {t : Tables} (M : IsMesh X Y Z pc cc np n t) (
   fewer = count_less (4 * n) (between? q p) (between? q next) stays F.at F.at< there gone
     where
       stays : (k : ℕ) → k < 4 * n → between? q next k ≡ true → between? q p k ≡ true
-      stays k l e = and_intro (lt_lt_z_lem (go (total (p k) (pos 0)))) (and_right (lt_z (pos 0) (next k)) (lt_z (q k) (pos 0)) e)
+      stays k l e = and_intro (lt_lt_z (go (total (p k) (pos 0)))) (and_right (lt_z (pos 0) (next k)) (lt_z (q k) (pos 0)) e)
         where
           back : q k <ℤ pos 0
-          back = lt_z_true_lem (q k) (pos 0) (and_right (lt_z (pos 0) (next k)) (lt_z (q k) (pos 0)) e)
+          back = lt_z_true (q k) (pos 0) (and_right (lt_z (pos 0) (next k)) (lt_z (q k) (pos 0)) e)
 
           ahead : pos 0 <ℤ next k
-          ahead = lt_z_true_lem (pos 0) (next k) (and_left (lt_z (pos 0) (next k)) (lt_z (q k) (pos 0)) e)
+          ahead = lt_z_true (pos 0) (next k) (and_left (lt_z (pos 0) (next k)) (lt_z (q k) (pos 0)) e)
 
           low : {a b u : ℤ} → pos 0 ≤ℤ a → pos 0 ≤ℤ b → u ≤ℤ pos 0 → (a *ℤ u +ℤ b *ℤ q k) ≤ℤ pos 0
           low ha hb h = +-nonpos (*-nonpos-r ha h) (*-nonpos-r hb (<→≤ back))
@@ -160,10 +160,10 @@ module _ {X Y Z pc cc np n : ℕ} {t : Tables} (M : IsMesh X Y Z pc cc np n t) (
       met = ring (neg (var 1) ⊗ var 0 ⊕ var 0 ⊗ var 1) (con (pos 0)) tt (p F.at ∷ q F.at ∷ [])
 
       gone : between? q next F.at ≡ false
-      gone = rw (le_z_not_lem (next F.at) (pos 0), le_le_z_lem (<→≤ (subst (λ z. z <ℤ pos 0) (sym (next_zero F.at met)) F.back)))
+      gone = rw (le_z_not (next F.at) (pos 0), le_le_z (<→≤ (subst (λ z. z <ℤ pos 0) (sym (next_zero F.at met)) F.back)))
 
       there : between? q p F.at ≡ true
-      there = and_intro (lt_lt_z_lem F.front) (lt_lt_z_lem F.back)
+      there = and_intro (lt_lt_z F.front) (lt_lt_z F.back)
 
   next_generic : Generic t n q next
   next_generic c i j h hi hj d z e =
@@ -433,7 +433,7 @@ module _ {X Y Z pc cc np n : ℕ} {t : Tables} (M : IsMesh X Y Z pc cc np n t) (
   walk zero p Fp y gen c₁ c₂ l₁ l₂ i₁ i₂ h = by (first (4 * n) p q)
     where
       by : First (4 * n) p q ⊎ ((f : ℕ) → f < 4 * n → (p f ≤ℤ pos 0) ⊎ (pos 0 ≤ℤ q f)) → Walked t n q Way c₁ c₂
-      by (inl F) = absurd (omega (arith, count_lt F.at (4 * n) (between? q p) F.at< (and_intro (lt_lt_z_lem F.front) (lt_lt_z_lem F.back))))
+      by (inl F) = absurd (omega (arith, count_lt F.at (4 * n) (between? q p) F.at< (and_intro (lt_lt_z F.front) (lt_lt_z F.back))))
       by (inr free) = arrived (at_rest p y c₁ c₂ l₁ l₂ i₁ i₂ free)
   walk (suc m) p Fp y gen c₁ c₂ l₁ l₂ i₁ i₂ h =
       by (λ p Fp y gen c₁ c₂ l₁ l₂ i₁ i₂ h. walk m p Fp y gen c₁ c₂ l₁ l₂ i₁ i₂ h) (first (4 * n) p q)

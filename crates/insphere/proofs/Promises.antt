@@ -9,7 +9,7 @@ use lib.Dec.{T, le→leb, lt→ltb, lit≤}
 use lib.IntN.{ℤ, pos, negsuc, nat_abs}
 use lib.Signed.{lt_z}
 use lib.Ieee.{Float, lt, binary64, in_float}
-use Rattle.arith.proofs.Order.{<-irrefl, <-trans, lt_z_true_lem, lt_lt_z_lem}
+use Rattle.arith.proofs.Order.{<-irrefl, <-trans, lt_z_true, lt_lt_z}
 use Rattle.arith.proofs.Flags.{split, holds, fails, and_left, and_right}
 use Rattle.arith.proofs.Magnitude.{fits}
 use Rattle.arith.proofs.Ring.{var, ◌⊕◌, ◌⊗◌}
@@ -48,12 +48,12 @@ module _ {x : Terms} (h : TermsInRange x) where
 
   pub sum_positive : lt limit (float_sum x) ≡ true → lt_z (pos 0) (exact_sum x) ≡ true
   unfolding float_sum exact_sum
-  sum_positive e = lt_lt_z_lem (total_above _ _ _ _ _ _ _ _ (factors h.t0) (factors h.t1) (factors h.t2) (factors h.t3) (holds e))
+  sum_positive e = lt_lt_z (total_above _ _ _ _ _ _ _ _ (factors h.t0) (factors h.t1) (factors h.t2) (factors h.t3) (holds e))
 
   pub sum_negative : lt (float_sum x) low_limit ≡ true → lt_z (pos 0) (exact_sum x) ≡ false
   unfolding float_sum exact_sum
   sum_negative e =
-      fails (lt_z (pos 0) (exact_sum x)) (λ y. <-irrefl (<-trans (lt_z_true_lem _ _ y)
+      fails (lt_z (pos 0) (exact_sum x)) (λ y. <-irrefl (<-trans (lt_z_true _ _ y)
       (total_below _ _ _ _ _ _ _ _ (factors h.t0) (factors h.t1) (factors h.t2) (factors h.t3) (holds e))))
 
   -- two words hold E

@@ -8,7 +8,7 @@ use native.Mathlib.Omega.{arith}
 use lib.Dec.{ltb}
 use lib.IntN.{ℤ, pos, negsuc, nat_abs, ◌+ℤ◌, ◌-ℤ◌, ◌*ℤ◌}
 use lib.Signed.{lt_z, ◌<ℤ◌, ◌≤ℤ◌, pos-nat_abs, yes_non_neg}
-use Rattle.arith.proofs.Order.{arithℤ, parts_add, parts_mul, lt_z_true_lem, lt_lt_z_lem}
+use Rattle.arith.proofs.Order.{arithℤ, parts_add, parts_mul, lt_z_true, lt_lt_z}
 use Rattle.arith.proofs.Flags.{bool_ext}
 use Rattle.arith.proofs.Magnitude.{abs_parts, abs-*, abs-+}
 use Rattle.arith.proofs.Ring.{var, con, ◌⊕◌, ◌⊖◌, ◌⊗◌, ring}
@@ -139,7 +139,7 @@ sum_is {x} h =
 -- the high word where it is not 0, else the low one
 pub high_tells : (w : Words) → w.low < unit → w.high ≢ pos 0 → lt_z (pos 0) w.high ≡ lt_z (pos 0) (value_of w)
 unfolding value_of
-high_tells w l d = bool_ext (lt_z (pos 0) w.high) (lt_z (pos 0) (value_of w)) (λ e. lt_lt_z_lem (up w.high (lt_z_true_lem _ _ e))) (λ e. lt_lt_z_lem (down w.high d (lt_z_true_lem _ _ e)))
+high_tells w l d = bool_ext (lt_z (pos 0) w.high) (lt_z (pos 0) (value_of w)) (λ e. lt_lt_z (up w.high (lt_z_true _ _ e))) (λ e. lt_lt_z (down w.high d (lt_z_true _ _ e)))
   where
     up : (h : ℤ) → pos 0 <ℤ h → pos 0 <ℤ (h *ℤ pos unit +ℤ pos w.low)
     up h e = omega (arithℤ, parts_add (h *ℤ pos unit) (pos w.low), parts_mul h (pos unit))

@@ -13,7 +13,7 @@ use lib.ListN.{get_or}
 use lib.Signed.{◌<ℤ◌, lt_z}
 use Rattle.arith.specs.Table.{all_below, first_below}
 use Rattle.arith.proofs.Flags.{split, clash, and_left, and_right, and_intro, fails}
-use Rattle.arith.proofs.Order.{lt_z_true_lem, lt_lt_z_lem, <-trans, <-irrefl}
+use Rattle.arith.proofs.Order.{lt_z_true, lt_lt_z, <-trans, <-irrefl}
 use Rattle.arith.proofs.Tables.{all_at, all_intro, below_more, first_is}
 use Rattle.arith.proofs.Renumbering.{count_into}
 use Rattle.rounding.specs.Whole.{IsInt}
@@ -106,7 +106,7 @@ module _ (T : ℕ → Float) (p : ℕ → Bool) (whole : (c : ℕ) → p c ≡ t
   order c d h k = lt_int (whole c h).1 (whole d k).1
 
   below : (c d : ℕ) (h : p c ≡ true) (k : p d ≡ true) → lt (T c) (T d) ≡ true → (whole c h).0 <ℤ (whole d k).0
-  below c d h k e = lt_z_true_lem (whole c h).0 (whole d k).0 (sym (order c d h k) ∙ e)
+  below c d h k e = lt_z_true (whole c h).0 (whole d k).0 (sym (order c d h k) ∙ e)
 
   not_itself : (c : ℕ) → p c ≡ true → lt (T c) (T c) ≡ false
   not_itself c h = fails (lt (T c) (T c)) (λ e. <-irrefl (below c c h h e))
@@ -134,7 +134,7 @@ module _ (T : ℕ → Float) (p : ℕ → Bool) (whole : (c : ℕ) → p c ≡ t
           by (inl f) = inl (n, omega arith, (e, each (above n) lower (λ q. not_itself n e)))
             where
               lower : (d : ℕ) → d < n → p d ≡ true → lt (T d) (T n) ≡ false
-              lower d l q = fails (lt (T d) (T n)) (λ r. clash (order d c q k ∙ lt_lt_z_lem (<-trans (below d n q e r) (below n c e k f))) (low d l q))
+              lower d l q = fails (lt (T d) (T n)) (λ r. clash (order d c q k ∙ lt_lt_z (<-trans (below d n q e r) (below n c e k f))) (low d l q))
 
 -- a cell of s with the least T, and none of s below it
 pub record Least (T : ℕ → Float) (s : List Bool) (x : Float) : Type 0 where

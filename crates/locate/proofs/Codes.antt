@@ -15,7 +15,7 @@ use lib.Signed.{◌<ℤ◌, ◌≤ℤ◌, le_z, lt_z}
 use mir.Val.{bool_byte}
 use Rattle.arith.specs.Table.{tabulate, all_below, any_below, sum}
 use Rattle.arith.proofs.Flags.{split, fails, and_left, bool_ext, or_cases, below_four, below_six}
-use Rattle.arith.proofs.Order.{arithℤ, total, le_z_true_lem, lt_z_yes_le_z_lem, lt_z_no_le_z_lem, ≤-<-trans, <-irrefl, *-mono-≤-l, *-mono-<-l}
+use Rattle.arith.proofs.Order.{arithℤ, total, le_z_true, lt_z_yes_le_z, lt_z_no_le_z, ≤-<-trans, <-irrefl, *-mono-≤-l, *-mono-<-l}
 use Rattle.arith.proofs.Sums.{sum_mono, sum_times}
 use Rattle.arith.proofs.Tables.{tabulate_at, tabulate_length, set_tabulate, all_cong, all_at, any_found, Found, find}
 use Rattle.geometry.specs.declared.Position.{Position}
@@ -230,7 +230,7 @@ apart ps codes k q C d =
     s i = point_in ps (get_or k i 0)
 
     by : holds_four ps k q ≡ true → Shared (λ i j. beyond j (s i) q) → ⊥
-    by e r = some_not s q C.positive (λ i h. le_z_true_lem (pos 0) _ (all_at 4 (λ i. le_z (pos 0) (volume (replaced s i q))) e i h)) r.bit r.bit< r.all
+    by e r = some_not s q C.positive (λ i h. le_z_true (pos 0) _ (all_at 4 (λ i. le_z (pos 0) (volume (replaced s i q))) e i h)) r.bit r.bit< r.all
 
 -- ---- the four volumes as the code holds them
 
@@ -263,17 +263,17 @@ module _ (v : Volumes) where
   tests = rw and-true
 
   pub fourth_fails : lt_z (volume_at v 3) (pos 0) ≡ true → false ≡ none_negative v
-  fourth_fails a = sym (tests ∙ rw (lt_z_yes_le_z_lem (pos 0) (volume_at v 3) a))
+  fourth_fails a = sym (tests ∙ rw (lt_z_yes_le_z (pos 0) (volume_at v 3) a))
 
   pub third_fails : lt_z (volume_at v 3) (pos 0) ≡ false → lt_z (volume_at v 2) (pos 0) ≡ true → false ≡ none_negative v
-  third_fails a b = sym (tests ∙ rw (lt_z_no_le_z_lem (pos 0) (volume_at v 3) a, lt_z_yes_le_z_lem (pos 0) (volume_at v 2) b))
+  third_fails a b = sym (tests ∙ rw (lt_z_no_le_z (pos 0) (volume_at v 3) a, lt_z_yes_le_z (pos 0) (volume_at v 2) b))
 
   pub second_fails : lt_z (volume_at v 3) (pos 0) ≡ false → lt_z (volume_at v 2) (pos 0) ≡ false → lt_z (volume_at v 1) (pos 0) ≡ true → false ≡ none_negative v
-  second_fails a b c = sym (tests ∙ rw (lt_z_no_le_z_lem (pos 0) (volume_at v 3) a, lt_z_no_le_z_lem (pos 0) (volume_at v 2) b, lt_z_yes_le_z_lem (pos 0) (volume_at v 1) c))
+  second_fails a b c = sym (tests ∙ rw (lt_z_no_le_z (pos 0) (volume_at v 3) a, lt_z_no_le_z (pos 0) (volume_at v 2) b, lt_z_yes_le_z (pos 0) (volume_at v 1) c))
 
   pub first_decides : lt_z (volume_at v 3) (pos 0) ≡ false → lt_z (volume_at v 2) (pos 0) ≡ false → lt_z (volume_at v 1) (pos 0) ≡ false →
       le_z (pos 0) (volume_at v 0) ≡ none_negative v
-  first_decides a b c = sym (tests ∙ rw (lt_z_no_le_z_lem (pos 0) (volume_at v 3) a, lt_z_no_le_z_lem (pos 0) (volume_at v 2) b, lt_z_no_le_z_lem (pos 0) (volume_at v 1) c))
+  first_decides a b c = sym (tests ∙ rw (lt_z_no_le_z (pos 0) (volume_at v 3) a, lt_z_no_le_z (pos 0) (volume_at v 2) b, lt_z_no_le_z (pos 0) (volume_at v 1) c))
 
 -- ---- the codes, point by point
 

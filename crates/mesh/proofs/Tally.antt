@@ -14,7 +14,7 @@ use lib.IntN.{ℤ, pos, negsuc, nat_abs, ◌+ℤ◌, +ℤ_idr}
 use lib.Signed.{◌≤ℤ◌, ◌<ℤ◌}
 use Rattle.arith.specs.Table.{tabulate, all_below, any_below, count_below, sum}
 use Rattle.arith.proofs.Flags.{split, fails, and_left, and_right, and_intro, or_cases, or_left, or_right}
-use Rattle.arith.proofs.Order.{arithℤ, parts_add, lt_z_true_lem, ≡→≤, <→≤, <-irrefl, le_le_z_lem}
+use Rattle.arith.proofs.Order.{arithℤ, parts_add, lt_z_true, ≡→≤, <→≤, <-irrefl, le_le_z}
 use Rattle.arith.proofs.Sums.{sum_more, sum_rises}
 use Rattle.arith.proofs.Counting.{count_yes, count_no}
 use Rattle.arith.proofs.Tables.{tabulate_at, tabulate_length, tabulate_cong, set_tabulate, all_at, all_fails, all_more, all_cong}
@@ -115,7 +115,7 @@ module _ (ps cs : List ℕ) where
 
     positive : (c : ℕ) → cell_ok t np c ≡ true → pos 0 <ℤ cell_volume t c
     unfolding cell_ok
-    positive c h = lt_z_true_lem (pos 0) (cell_volume t c) (and_right (all_below 4 (λ i. ltb (corner t c i) np)) _ h)
+    positive c h = lt_z_true (pos 0) (cell_volume t c) (and_right (all_below 4 (λ i. ltb (corner t c i) np)) _ h)
 
     valued : (c : ℕ) → cell_ok t np c ≡ true → pos (volume_or_zero ps np (four_at cs c)) ≡ cell_volume t c
     unfolding volume_or_zero
@@ -231,7 +231,7 @@ module _ (ps cs : List ℕ) where
       unfolding cells_pass
       all_fits few z e =
           ap (λ u. all_marked u m.points) T.marks_are ∙
-          sym (rw (T.each, and_intro (le_le_z_lem (≡→≤ is)) (le_le_z_lem (≡→≤ (sym is))), eq-eqb m.cells (count_below m.used (live t)) (sym (cells_are ∙ e)), and-true)
+          sym (rw (T.each, and_intro (le_le_z (≡→≤ is)) (le_le_z (≡→≤ (sym is))), eq-eqb m.cells (count_below m.used (live t)) (sym (cells_are ∙ e)), and-true)
           (all_cong m.points (used_ok t m.used) (λ v. eqb (get_or (marks t m.used) v 0) 1) (λ v l. sym (marked_is m.used v (omega arith)))))
         where
           is : sum m.used (cell_volume t) ≡ pos total

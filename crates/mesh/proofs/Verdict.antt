@@ -12,7 +12,7 @@ use lib.IntN.{pos}
 use lib.Signed.{◌<ℤ◌}
 use Rattle.arith.specs.Table.{all_below, count_below, sum}
 use Rattle.arith.proofs.Flags.{split, clash, fails, bool_ext, and_left, and_right, and_intro, or_left, or_right, or_other}
-use Rattle.arith.proofs.Order.{lt_z_true_lem, le_le_z_lem, ≡→≤}
+use Rattle.arith.proofs.Order.{lt_z_true, le_le_z, ≡→≤}
 use Rattle.arith.proofs.Tables.{all_at, all_intro}
 use Rattle.geometry.specs.Volume.{in_box}
 use Rattle.geometry.proofs.Ranges.{box_in}
@@ -80,7 +80,7 @@ module _ (m : Mesh) (ps cs ns : List ℕ) (w : ℕ) where
   unfolding cells_pass cell_ok used_ok cell_volume corner_at live freed corner
   cells_fail e =
       fails (is_mesh m t w) (λ h. clash
-      (and_intro (parts h).cells (and_intro (parts h).used (and_intro (and_intro (le_le_z_lem (≡→≤ (parts h).volumes)) (le_le_z_lem (≡→≤ (sym (parts h).volumes)))) (and_left count_pass _ (entries h)))))
+      (and_intro (parts h).cells (and_intro (parts h).used (and_intro (and_intro (le_le_z (≡→≤ (parts h).volumes)) (le_le_z (≡→≤ (sym (parts h).volumes)))) (and_left count_pass _ (entries h)))))
       e)
 
   pub chain_fails : chain_pass ≡ false → is_mesh m t w ≡ false
@@ -158,7 +158,7 @@ module _ (m : Mesh) (ps cs ns : List ℕ) (w : ℕ) where
 
   positive : cells_ok ≡ true → (c : ℕ) → IsCell t m.used c → pos 0 <ℤ cell_volume t c
   unfolding cell_ok
-  positive e c h = lt_z_true_lem (pos 0) (cell_volume t c) (and_right (all_below 4 (λ i. ltb (corner t c i) m.points)) _ (each_cell e c h))
+  positive e c h = lt_z_true (pos 0) (cell_volume t c) (and_right (all_below 4 (λ i. ltb (corner t c i) m.points)) _ (each_cell e c h))
 
   -- ---- the faces decide
 

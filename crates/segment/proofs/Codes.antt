@@ -13,7 +13,7 @@ use lib.ListN.{length, get_or}
 use lib.Signed.{◌<ℤ◌, ◌≤ℤ◌, lt_z}
 use Rattle.arith.specs.Table.{sum}
 use Rattle.arith.proofs.Flags.{fails, and_left, and_right, below_six}
-use Rattle.arith.proofs.Order.{arithℤ, parts_sub, ≡→≤, <-irrefl, <→≤, ≤-<-trans, sub_pos, neg_pos, +-nonpos, *-nonpos-r, *-mono-≤-l, *-pos, lt_z_true_lem}
+use Rattle.arith.proofs.Order.{arithℤ, parts_sub, ≡→≤, <-irrefl, <→≤, ≤-<-trans, sub_pos, neg_pos, +-nonpos, *-nonpos-r, *-mono-≤-l, *-pos, lt_z_true}
 use Rattle.arith.proofs.Ring.{Expr, eval, var, con, ◌⊕◌, ◌⊖◌, ◌⊗◌, neg, ring}
 use Rattle.arith.proofs.Sums.{sum_cong, sum_mono}
 use Rattle.geometry.specs.declared.Position.{Position}
@@ -275,12 +275,12 @@ module _ (a b : Position) where
     unfolding aside
     none_aside =
         below_six (λ j. ((k : ℕ) → k < 4 → aside j (corner_at t c k) ≡ true) → Touched t a b c → ⊥)
-        (λ e. none_below plane_x (λ k l. lt_z_true_lem _ (pos 0) (e k l)))
-        (λ e. none_above plane_x (λ k l. lt_z_true_lem (pos 0) _ (e k l)))
-        (λ e. none_below plane_y (λ k l. lt_z_true_lem _ (pos 0) (e k l)))
-        (λ e. none_above plane_y (λ k l. lt_z_true_lem (pos 0) _ (e k l)))
-        (λ e. none_below plane_z (λ k l. lt_z_true_lem _ (pos 0) (e k l)))
-        (λ e. none_above plane_z (λ k l. lt_z_true_lem (pos 0) _ (e k l)))
+        (λ e. none_below plane_x (λ k l. lt_z_true _ (pos 0) (e k l)))
+        (λ e. none_above plane_x (λ k l. lt_z_true (pos 0) _ (e k l)))
+        (λ e. none_below plane_y (λ k l. lt_z_true _ (pos 0) (e k l)))
+        (λ e. none_above plane_y (λ k l. lt_z_true (pos 0) _ (e k l)))
+        (λ e. none_below plane_z (λ k l. lt_z_true _ (pos 0) (e k l)))
+        (λ e. none_above plane_z (λ k l. lt_z_true (pos 0) _ (e k l)))
 
 -- ---- an entry that the codes rule out
 

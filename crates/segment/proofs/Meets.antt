@@ -13,7 +13,7 @@ use borrow.Author.Tests.{not-true}
 use Rattle.arith.specs.Table.{all_below}
 use Rattle.arith.proofs.Combine.{times, term, done, nonneg}
 use Rattle.arith.proofs.Flags.{split, clash, and_left, and_right, and_intro, or_cases, or_left, or_right}
-use Rattle.arith.proofs.Order.{arithℤ, pos_part, neg_part, parts_sub, parts_neg, ≡→≤, <-irrefl, ≤-<-trans, total, sub_nonneg, cancel_nonneg, lt_z_true_lem, le_z_true_lem, lt_lt_z_lem, le_le_z_lem, lt_z_no_le_z_lem, le_z_not_lem}
+use Rattle.arith.proofs.Order.{arithℤ, pos_part, neg_part, parts_sub, parts_neg, ≡→≤, <-irrefl, ≤-<-trans, total, sub_nonneg, cancel_nonneg, lt_z_true, le_z_true, lt_lt_z, le_le_z, lt_z_no_le_z, le_z_not}
 use Rattle.arith.proofs.Ring.{Expr, var, con, ◌⊕◌, ◌⊖◌, ◌⊗◌, neg, ring}
 use Rattle.arith.proofs.Tables.{all_at, all_intro}
 use Rattle.segment.specs.Call.{below, enters, in_order, meets}
@@ -112,10 +112,10 @@ down (pos n) h = absurd (not_below n h)
 down (negsuc n) h = refl
 
 below_no : (z : ℤ) → pos 0 ≤ℤ z → not (below z) ≡ true
-below_no z h = ap not (le_z_not_lem (pos 0) z ∙ ap not (le_le_z_lem h))
+below_no z h = ap not (le_z_not (pos 0) z ∙ ap not (le_le_z h))
 
 below_off : (z : ℤ) → not (below z) ≡ true → pos 0 ≤ℤ z
-below_off z h = le_z_true_lem (pos 0) z (lt_z_no_le_z_lem (pos 0) z (not-true (below z) h))
+below_off z h = le_z_true (pos 0) z (lt_z_no_le_z (pos 0) z (not-true (below z) h))
 
 module _ {a b c d : ℤ} where
   in_order_of : a <ℤ pos 0 → pos 0 ≤ℤ b → d <ℤ pos 0 → pos 0 ≤ℤ c → in_order a b c d ≡ true → (a *ℤ d) ≤ℤ (c *ℤ b)
@@ -123,8 +123,8 @@ module _ {a b c d : ℤ} where
   in_order_of u v w z e = go (or_cases (not (enters a b && enters d c)) (le_z (a *ℤ d) (c *ℤ b)) e)
     where
       go : (not (enters a b && enters d c) ≡ true) ⊎ (le_z (a *ℤ d) (c *ℤ b) ≡ true) → (a *ℤ d) ≤ℤ (c *ℤ b)
-      go (inl q) = clash (and_intro (and_intro (lt_lt_z_lem u) (below_no b v)) (and_intro (lt_lt_z_lem w) (below_no c z))) (not-true (enters a b && enters d c) q)
-      go (inr q) = le_z_true_lem (a *ℤ d) (c *ℤ b) q
+      go (inl q) = clash (and_intro (and_intro (lt_lt_z u) (below_no b v)) (and_intro (lt_lt_z w) (below_no c z))) (not-true (enters a b && enters d c) q)
+      go (inr q) = le_z_true (a *ℤ d) (c *ℤ b) q
 
   in_order_yes : (a <ℤ pos 0 → pos 0 ≤ℤ b → d <ℤ pos 0 → pos 0 ≤ℤ c → (a *ℤ d) ≤ℤ (c *ℤ b)) → in_order a b c d ≡ true
   unfolding in_order
@@ -136,8 +136,8 @@ module _ {a b c d : ℤ} where
           let i = and_left (enters a b) (enters d c) q in
           let j = and_right (enters a b) (enters d c) q in
           or_right (not (enters a b && enters d c)) (le_z (a *ℤ d) (c *ℤ b))
-          (le_le_z_lem (h (lt_z_true_lem a (pos 0) (and_left (below a) (not (below b)) i)) (below_off b (and_right (below a) (not (below b)) i))
-          (lt_z_true_lem d (pos 0) (and_left (below d) (not (below c)) j)) (below_off c (and_right (below d) (not (below c)) j))))
+          (le_le_z (h (lt_z_true a (pos 0) (and_left (below a) (not (below b)) i)) (below_off b (and_right (below a) (not (below b)) i))
+          (lt_z_true d (pos 0) (and_left (below d) (not (below c)) j)) (below_off c (and_right (below d) (not (below c)) j))))
 
 module _ (m : ℕ) (a b : ℕ → ℤ) where
   -- where the last form enters, none is below 0
@@ -217,7 +217,7 @@ module _ (m : ℕ) (a b : ℕ → ℤ) where
   meets_of : meets m a b ≡ true → Meets m a b
   unfolding meets
   meets_of e = record {
-    apart = λ k h u w. clash (and_intro (lt_lt_z_lem u) (lt_lt_z_lem w)) (not-true (below (a k) && below (b k)) (and_left (not (below (a k) && below (b k))) _ (all_at m each e k h)));
+    apart = λ k h u w. clash (and_intro (lt_lt_z u) (lt_lt_z w)) (not-true (below (a k) && below (b k)) (and_left (not (below (a k) && below (b k))) _ (all_at m each e k h)));
     pairs = λ k l hk hl u v w z. in_order_of u v w z (all_at m (λ l. in_order (a k) (b k) (a l) (b l)) (and_right (not (below (a k) && below (b k))) _ (all_at m each e k hk)) l hl);
   }
 
@@ -226,7 +226,7 @@ module _ (m : ℕ) (a b : ℕ → ℤ) where
   meets_yes M = all_intro m each (λ k hk. and_intro (one k hk (split (below (a k) && below (b k)))) (all_intro m (λ l. in_order (a k) (b k) (a l) (b l)) (λ l hl. in_order_yes (M.pairs k l hk hl))))
     where
       one : (k : ℕ) → k < m → ((below (a k) && below (b k)) ≡ true) ⊎ ((below (a k) && below (b k)) ≡ false) → not (below (a k) && below (b k)) ≡ true
-      one k h (inl q) = absurd (M.apart k h (lt_z_true_lem (a k) (pos 0) (and_left (below (a k)) (below (b k)) q)) (lt_z_true_lem (b k) (pos 0) (and_right (below (a k)) (below (b k)) q)))
+      one k h (inl q) = absurd (M.apart k h (lt_z_true (a k) (pos 0) (and_left (below (a k)) (below (b k)) q)) (lt_z_true (b k) (pos 0) (and_right (below (a k)) (below (b k)) q)))
       one k h (inr q) = ap not q
 
   -- THE TEST IS RIGHT

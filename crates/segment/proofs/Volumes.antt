@@ -13,7 +13,7 @@ use mir.Val.{Fits, SFits}
 use Rattle.arith.specs.Table.{all_below}
 use Rattle.arith.proofs.Flags.{and_intro, below_four, test_failed, test_passed}
 use Rattle.arith.proofs.Machine.{back, back_64, negated_fits, size_negated, negated_casts, itself_casts}
-use Rattle.arith.proofs.Order.{arithℤ, lt_lt_z_lem, le_le_z_lem, le_z_not_lem, lt_z_true_lem, le_z_true_lem, lt_z_no_le_z_lem}
+use Rattle.arith.proofs.Order.{arithℤ, lt_lt_z, le_le_z, le_z_not, lt_z_true, le_z_true, lt_z_no_le_z}
 use Rattle.arith.proofs.Tables.{all_cong, all_intro, all_fails}
 use Rattle.geometry.specs.declared.Position.{Position}
 use Rattle.geometry.specs.declared.Volumes.{Volumes}
@@ -70,7 +70,7 @@ module _ (a b c d : ℤ) where
   sizes : a <ℤ pos 0 → pos 0 ≤ℤ b → pos 0 ≤ℤ c → d <ℤ pos 0 → leb (nat_abs a * nat_abs d) (nat_abs c * nat_abs b) ≡ in_order a b c d
   unfolding in_order
   sizes e f g h =
-      products a b c d e f g h ∙ sym (rw (lt_lt_z_lem e, le_z_not_lem (pos 0) b, le_le_z_lem f, lt_lt_z_lem h, le_z_not_lem (pos 0) c, le_le_z_lem g))
+      products a b c d e f g h ∙ sym (rw (lt_lt_z e, le_z_not (pos 0) b, le_le_z f, lt_lt_z h, le_z_not (pos 0) c, le_le_z g))
     where
       products : (a b c d : ℤ) → a <ℤ pos 0 → pos 0 ≤ℤ b → pos 0 ≤ℤ c → d <ℤ pos 0 → leb (nat_abs a * nat_abs d) (nat_abs c * nat_abs b) ≡ le_z (a *ℤ d) (c *ℤ b)
       products (negsuc x) (pos y) (pos z) (negsuc w) e f g h = refl
@@ -92,7 +92,7 @@ module _ (a b c d : ℤ) where
       off false = refl
 
 above_off : (z : ℤ) → le_z (pos 0) z ≡ true → below z ≡ false
-above_off z e = le_z_not_lem (pos 0) z ∙ ap not e
+above_off z e = le_z_not (pos 0) z ∙ ap not e
 
 enters_off : (a b : ℤ) → below a ≡ false → enters a b ≡ false
 enters_off a b e = rw e
@@ -116,7 +116,7 @@ module _ (z : ℤ) (h : nat_abs z ≤ 2 ^ 52) where
   not_below e = above_off z (ap (le_z (pos 0)) (sym itself) ∙ e)
 
   pub is_below : le_z (pos 0) (back w64 z) ≡ false → lt_z (back w64 z) (pos 0) ≡ true
-  is_below e = le_z_not_lem (pos 0) (back w64 z) ∙ ap not e
+  is_below e = le_z_not (pos 0) (back w64 z) ∙ ap not e
 
   pub opposite_fits : SFits w64 (pos 0 -ℤ back w64 z)
   opposite_fits = negated_fits z word
@@ -153,10 +153,10 @@ module _ (a b c d : ℤ) (H : (nat_abs a ≤ 2 ^ 52) × (nat_abs b ≤ 2 ^ 52) �
       sizes a b c d (low a H.0 e) (high b H.1 f) (high c H.2 g) (low d H.3 h)
     where
       low : (z : ℤ) → nat_abs z ≤ 2 ^ 52 → le_z (pos 0) (back w64 z) ≡ false → z <ℤ pos 0
-      low z k e = lt_z_true_lem z (pos 0) (ap below (sym (itself z k)) ∙ is_below z k e)
+      low z k e = lt_z_true z (pos 0) (ap below (sym (itself z k)) ∙ is_below z k e)
 
       high : (z : ℤ) → nat_abs z ≤ 2 ^ 52 → lt_z (back w64 z) (pos 0) ≡ false → pos 0 ≤ℤ z
-      high z k e = le_z_true_lem (pos 0) z (lt_z_no_le_z_lem (pos 0) z (ap below (sym (itself z k)) ∙ e))
+      high z k e = le_z_true (pos 0) z (lt_z_no_le_z (pos 0) z (ap below (sym (itself z k)) ∙ e))
 
 -- ---- four tests, from the last to the first
 

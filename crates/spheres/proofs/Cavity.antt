@@ -9,7 +9,7 @@ use native.Mathlib.Decide.{ℕ_discrete}
 use lib.IntN.{pos}
 use lib.Signed.{◌<ℤ◌, ◌≤ℤ◌}
 use Rattle.arith.proofs.Flags.{clash, bool_ext}
-use Rattle.arith.proofs.Order.{arithℤ, <→≤, <-irrefl, ≤-<-trans, <-≤-trans, trichotomy, total, lt_z_true_lem, lt_lt_z_lem}
+use Rattle.arith.proofs.Order.{arithℤ, <→≤, <-irrefl, ≤-<-trans, <-≤-trans, trichotomy, total, lt_z_true, lt_lt_z}
 use Rattle.geometry.specs.declared.Position.{Position}
 use Rattle.geometry.specs.Volume.{volume, replaced, InBox}
 use Rattle.insphere.proofs.Power.{power, sum_is_power, power_corner}
@@ -42,11 +42,11 @@ sphere_is t p c = sum_is_power (corner_at t c) p
 
 yes_of : (t : Tables) (p : Position) (c : ℕ) → says_yes sphere t p c ≡ true → pos 0 <ℤ cell_e t p c
 unfolding says_yes
-yes_of t p c e = lt_z_true_lem (pos 0) (cell_e t p c) e
+yes_of t p c e = lt_z_true (pos 0) (cell_e t p c) e
 
 yes_yes : (t : Tables) (p : Position) (c : ℕ) → pos 0 <ℤ cell_e t p c → says_yes sphere t p c ≡ true
 unfolding says_yes
-yes_yes t p c h = lt_lt_z_lem h
+yes_yes t p c h = lt_lt_z h
 
 -- by omega, so that an edit of `Empty` is refused where it is to be shown and not where it is given
 pub point_out : {np n : ℕ} {t : Tables} → Empty np n t → (c k : ℕ) → IsCell t n c → k < np → cell_e t (point t k) c ≤ℤ pos 0

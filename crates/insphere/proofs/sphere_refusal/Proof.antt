@@ -6,7 +6,7 @@ use lib.Signed.{le_z, lt_z}
 use mir.Syntax.{w64}
 use mir.Facts.{to_z-of_z}
 use borrow.Author.Rules.{rules}
-use Rattle.arith.proofs.Order.{le_z_not_lem}
+use Rattle.arith.proofs.Order.{le_z_not}
 use Rattle.arith.proofs.Machine.{back}
 use Rattle.arith.proofs.Flags.{test_failed, test_passed}
 use Rattle.geometry.specs.Volume.{in_range, corners_in_range, volume6}
@@ -27,7 +27,7 @@ volume-of c = let a = c.args in volume6 a.t.a a.t.b a.t.c a.t.d
 -- the sign of the volume, as it is tested
 sign : (c : tie.After-volume) → lt_z (pos 0) (volume-of c) ≡ not (le_z (back w64 c.volume.result) (pos 0))
 sign c =
-    ap (lt_z (pos 0)) (sym (to_z-of_z {w = w64} (record { sfits = c.volume.type_inv }) ∙ c.volume.ensures)) ∙ le_z_not_lem (back w64 c.volume.result) (pos 0)
+    ap (lt_z (pos 0)) (sym (to_z-of_z {w = w64} (record { sfits = c.volume.type_inv }) ∙ c.volume.ensures)) ∙ le_z_not (back w64 c.volume.result) (pos 0)
 
 corners-in-range-requires : tie.Need-corners_in_range-requires
 corners-in-range-requires c κs = search rules

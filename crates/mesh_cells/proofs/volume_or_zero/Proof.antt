@@ -10,7 +10,7 @@ use mir.Syntax.{w64}
 use mir.Facts.{to_z-of_z}
 use borrow.Author.Tests.{ltb-true}
 use Rattle.arith.proofs.Flags.{test_failed, test_passed}
-use Rattle.arith.proofs.Order.{le_z_not_lem}
+use Rattle.arith.proofs.Order.{le_z_not}
 use Rattle.arith.proofs.Machine.{back, positive_casts}
 use Rattle.arith.proofs.Tables.{all_at}
 use Rattle.geometry.specs.Volume.{volume}
@@ -42,7 +42,7 @@ unfolding volume
 is c = to_z-of_z {w = w64} (record { sfits = c.volume-v.type_inv }) ∙ (c.volume-v.ensures ∙ rw c.positions.ensures)
 
 sign : (c : tie.After-volume-v) → lt_z (pos 0) (volume-of c) ≡ not (le_z (back w64 c.volume-v.result) (pos 0))
-sign c = ap (lt_z (pos 0)) (sym (is c)) ∙ le_z_not_lem (back w64 c.volume-v.result) (pos 0)
+sign c = ap (lt_z (pos 0)) (sym (is c)) ∙ le_z_not (back w64 c.volume-v.result) (pos 0)
 
 all-below-requires : tie.Need-all_below-requires
 all-below-requires c κs = search rules
