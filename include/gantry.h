@@ -24,7 +24,7 @@ extern "C" {
  * Refusals; docs/MANUAL.md says what to do about each. A refusal changes nothing but the work area; a list that stops at a refused
  * node keeps the nodes before it. Tests are made in number order, but 13 and then 12 directly after 5, a file's 9 before its 2, and
  * gantry_merge's in the order given there.
- * 7 is never answered: that is proved, as never-seven in crates/covering.
+ * 7 is never answered: that is proved, as never_seven in crates/covering.
  */
 #define GANTRY_ACCEPTED 0
 #define GANTRY_SHORT 1          /* room for fewer than 8 points or 6 cells; fewer answers than the used length, or corrections than 3 a point of room */

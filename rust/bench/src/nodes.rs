@@ -58,7 +58,7 @@ pub fn row(count: u32) -> Set {
     }
 }
 
-/// Picked against the proved merge: its search for each begins at one place (`hashOf` of crates/merging/specs/Inner).
+/// Picked against the proved merge: its search for each begins at one place (`hash_of` of crates/merging/specs/Inner).
 pub fn of_one_start(count: usize) -> Set {
     let start = |[x, y, z]: Position| {
         let [x, y, z] = [x, y, z].map(u64::from);

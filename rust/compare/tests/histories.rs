@@ -37,10 +37,10 @@ fn words(numbers: &[usize]) -> String {
 }
 
 /// Names and records of the table's pieces.
-fn pieces(table: &str) -> Vec<(&str, &str)> {
+fn pieces(table: &str) -> Vec<(String, &str)> {
     let pieces = table.split("unfoldable pub ").filter_map(|piece| {
-        let (name, rest) = piece.split_once("-history : Piece")?;
-        Some((name, between(rest, "record {", "\n    }")))
+        let (name, rest) = piece.split_once("_history : Piece")?;
+        Some((name.replace('_', "-"), between(rest, "record {", "\n    }")))
     });
     pieces.collect()
 }
@@ -84,7 +84,7 @@ fn left(piece: &str) -> String {
 fn they_are_the_proved_ones() {
     let table = read("crates/pieces/specs/Separating.antt");
     let pieces = pieces(&table);
-    let names: Vec<&str> = pieces.iter().map(|&(name, _)| name).collect();
+    let names: Vec<&str> = pieces.iter().map(|(name, _)| &name[..]).collect();
     assert_eq!(names, IN_THE_TABLE);
     for (name, piece) in pieces {
         assert_eq!(
@@ -113,10 +113,10 @@ fn the_parked_head_is_the_proved_one() {
     );
     assert_eq!(read("examples/histories/lowest-numbered.calls"), calls);
     let cell = |from: &str| line(from).pop().expect("a cell");
-    let (before, after) = (cell("pub located :"), cell("pub located-again :"));
-    let corners = format!("pub corners-{before} :");
+    let (before, after) = (cell("pub located :"), cell("pub located_again :"));
+    let corners = format!("pub corners_{before} :");
     let expected = read("examples/histories/lowest-numbered.txt");
-    for (cell, corners) in [(before, &corners[..]), (after, "pub same-corners :")] {
+    for (cell, corners) in [(before, &corners[..]), (after, "pub same_corners :")] {
         let corners = &line(corners)[1..];
         let located = format!("\ncell {cell} corners {}\n", words(corners));
         assert!(expected.contains(&located), "{located}");

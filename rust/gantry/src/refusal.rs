@@ -54,7 +54,7 @@ refusals! {
     Taken = 5, "taken", "a point is already there";
     PointsFull = 6, "points full", "there is no room for a further point; in a merge, more than 1,016 nodes are left";
     Unheld = 7, "unheld", "no cell holds the position",
-        "Never answered: proved as `never-seven` in `crates/covering`. The number stays in the table.";
+        "Never answered: proved as `never_seven` in `crates/covering`. The number stays in the table.";
     CellsFull = 8, "cells full", "the old cells and the new ones together exceed the room for cells";
     Trailer = 9, "trailer", "a file under 20 bytes, or a wrong count or distance in its trailer";
     NoPlace = 10, "no place", "the output is shorter than what is to be written";
