@@ -3,7 +3,7 @@
 # gantry_correction: three divisions at most on a path, no remainder that one leaves is read, and nothing else in the archive divides.
 # Counted by paths: beside each division of 64 bits the back end puts one of 32, for numbers that fit, and takes one of the two.
 # Then the same of the rounding alone in an archive, as it is, and of wrong builds of it, .ci/divisions/NAME.patch. Their numbers are
-# right, and they are proved: this must refuse them. Before: rt lib in crates/gantry.
+# right, and they are proved: this must refuse them. Before: rt lib --cpu=x86-64 in crates/gantry.
 set -uo pipefail
 cd "$(dirname "$0")/.." || exit 1
 scratch=$(mktemp -d)

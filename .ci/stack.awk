@@ -7,12 +7,14 @@ function hex(s,    v, i) {
     return v
 }
 
-# the bytes that a loop at instruction i lowers the stack pointer by, a page at a time, down to r11; 0 where there is none
-function probed(i,    w) {
-    if (code[i] != "mov %rsp,%r11" || code[i + 1] !~ /^sub \$0x[0-9a-f]+000,%r11$/ || code[i + 2] != "sub $0x1000,%rsp" ||
+# the bytes that a loop at instruction i lowers the stack pointer by, at most a page at a time, down to r11; 0 where there is none
+function probed(i,    w, step) {
+    if (code[i] != "mov %rsp,%r11" || code[i + 1] !~ /^sub \$0x[0-9a-f]+,%r11$/ || code[i + 2] !~ /^sub \$0x[0-9a-f]+,%rsp$/ ||
         code[i + 3] != "movq $0x0,(%rsp)" || code[i + 4] != "cmp %r11,%rsp" || code[i + 5] !~ "^jne " address[i + 2] " ") return 0
+    split(code[i + 2], w, /[ ,]/)
+    step = hex(w[2])
     split(code[i + 1], w, /[ ,]/)
-    return hex(w[2])
+    return step > 0 && step <= 4096 && hex(w[2]) % step == 0 ? hex(w[2]) : 0
 }
 
 # the most bytes that function f takes below the stack pointer it is entered with

@@ -1,7 +1,7 @@
 #!/usr/bin/env bash
 # Holds gantry.h's '52 KiB of stack': follows the stack pointer through the machine code of libgantry.a, along every jump and call.
 # A measured run would hold for its input alone; this holds for all. What it cannot follow (recursion, a call or jump through a
-# pointer, another change of the stack pointer) fails the check. Before: rt lib in crates/gantry.
+# pointer, another change of the stack pointer) fails the check. Before: rt lib --cpu=x86-64 in crates/gantry.
 set -uo pipefail
 cd "$(dirname "$0")/.." || exit 1
 limit=53248

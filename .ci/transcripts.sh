@@ -3,7 +3,7 @@
 #
 # In a block ```console, '$ ' begins a command and '> ' carries it on; the other lines are its output, standard error too; one line
 # '...' may stand for any lines. A command ends with status 0, unless the next one is 'echo $?'. A block ```LANGUAGE FILE is written
-# to FILE. Before: rt lib in crates/gantry and rt run in crates/listing, so that what is proved is then only built.
+# to FILE. Before: rt ci.
 set -u
 cd "$(dirname "$0")/.." || exit 1
 . .ci/environment || exit 1

@@ -7,7 +7,8 @@
  * the areas lent to one call do not overlap, unless both are only read, and no other thread touches them meanwhile. The caller sees to
  * that: it is assumed, not proved. A call takes less than 52 KiB of stack, which is not proved either: the gate holds the archive to it.
  *
- * Link with libgantry.a alone ('rt lib' in crates/gantry writes it, for x86-64 Linux); it takes memcpy and memset from the C library.
+ * Link with libgantry.a alone ('rt lib --cpu=x86-64' in crates/gantry writes it, for x86-64 Linux); it takes memcpy and memset from
+ * the C library.
  */
 #ifndef GANTRY_H
 #define GANTRY_H

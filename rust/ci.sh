@@ -1,6 +1,7 @@
 #!/usr/bin/env bash
 # The checks of rust/ over the archive, a line a step; what a failed step printed comes before its line. Status 0 only where all
-# are ok. Before: rt lib in crates/gantry. Archive, header and target directory are the repository's own, whatever the environment says.
+# are ok. Before: rt lib --cpu=x86-64 in crates/gantry. Archive, header and target directory are the repository's own, whatever the
+# environment says.
 set -uo pipefail
 cd "$(dirname "$0")" || exit 1
 . ../.ci/environment || exit 1
@@ -71,7 +72,7 @@ separates() {
 }
 
 if [ ! -f $archive ]; then
-    echo "rust: no $archive: build it with 'rt lib' in crates/gantry"
+    echo "rust: no $archive: build it with 'rt lib --cpu=x86-64' in crates/gantry"
     exit 1
 fi
 

@@ -1,6 +1,6 @@
 #!/usr/bin/env bash
-# alone.sh ARCHIVE [NAME]: the archive of the rounding alone, of its wrong build NAME where one is named: a copy of the crates, in which
-# corrections_round is a static library. The crates beneath it are taken as rt lib in crates/gantry kept them, or else proved again.
+# alone.sh ARCHIVE [NAME]: the archive of the rounding alone, of its wrong build NAME where one is named: from a copy of the crates, in
+# which corrections_round is a static library. rt takes the crates beneath it as they were built here for gantry, or proves them again.
 set -euo pipefail
 archive=$(realpath "$1")
 cd "$(dirname "$0")/../.."
@@ -15,5 +15,5 @@ for name in alone "${@:2}"; do
     git apply "$patches/$name.patch"
 done
 cd crates/corrections_round
-rt lib > "$scratch/said" 2>&1 || { cat "$scratch/said"; exit 1; }
+rt lib --cpu=x86-64 > "$scratch/said" 2>&1 || { cat "$scratch/said"; exit 1; }
 cp out/libcorrections_round.a "$archive"

@@ -8,7 +8,7 @@ out=$root/target/c
 
 cd "$root"
 mkdir -p "$out"
-(cd crates/gantry && rt lib) >"$out/lib.log" 2>&1 || { tail -n 20 "$out/lib.log"; exit 1; }
+(cd crates/gantry && rt lib --cpu=x86-64) >"$out/lib.log" 2>&1 || { tail -n 20 "$out/lib.log"; exit 1; }
 
 # build NAME STANDARD COMPILER..
 build() {

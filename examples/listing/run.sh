@@ -1,7 +1,7 @@
 #!/usr/bin/env bash
 # Runs three programs on each node file here, the proved listing, the command gantry over the archive and the plain build's, and
 # compares what each prints with NAME.txt, or, where a listing runs to thousands of lines, with its checksum in NAME.sum. Before: rt
-# ci, or rt run in crates/listing, and rt lib in crates/gantry. The status is 0 only where nothing differs.
+# ci, or rt run in crates/listing; rt lib --cpu=x86-64 in crates/gantry. The status is 0 only where nothing differs.
 set -uo pipefail
 cd "$(dirname "$0")" || exit 1
 . ../../.ci/environment || exit 1

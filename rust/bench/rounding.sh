@@ -1,6 +1,6 @@
 #!/usr/bin/env bash
 # rounding.sh: the rounding of a position's correction alone, as it is and in the wrong builds of .ci/divisions: instructions and
-# nanoseconds a position, three axes, as a Markdown table. Before: rt lib in crates/gantry.
+# nanoseconds a position, three axes, as a Markdown table. Before: rt lib --cpu=x86-64 in crates/gantry.
 set -euo pipefail
 cd "$(dirname "$0")/../.."
 scratch=$(mktemp -d)

@@ -1,4 +1,4 @@
-//! Finds the archive: in the directory that GANTRY_ARCHIVE_DIR names, else where `rt lib` in crates/gantry puts it.
+//! Finds the archive: in the directory that GANTRY_ARCHIVE_DIR names, else where `rt lib --cpu=x86-64` in crates/gantry puts it.
 
 use std::path::{Path, PathBuf};
 
@@ -20,7 +20,7 @@ fn main() {
     println!("cargo::rerun-if-changed={}", archive.display());
     if !archive.is_file() {
         println!(
-            "cargo::error=no archive {}: build it with 'rt lib' in crates/gantry, \
+            "cargo::error=no archive {}: build it with 'rt lib --cpu=x86-64' in crates/gantry, \
              or set {VARIABLE} to the directory (absolute) that holds libgantry.a",
             archive.display()
         );

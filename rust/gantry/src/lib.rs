@@ -80,7 +80,7 @@
 //! ```
 //!
 //! The build looks for `libgantry.a` in the directory that `GANTRY_ARCHIVE_DIR` names, else in the repository's
-//! `crates/gantry/out`, where `rt lib` in `crates/gantry` puts it.
+//! `crates/gantry/out`, where `rt lib --cpu=x86-64` in `crates/gantry` puts it.
 
 mod geometry;
 mod mesh;
