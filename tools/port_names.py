@@ -94,6 +94,19 @@ def libraries(text):
     return names, modules
 
 
+# Names that no declaration of one name a line shows: constructors that share a line, lemmas beneath a where, names of imports and
+# bound variables. The last three were garbled before this script.
+MORE = {
+    it: snake(it).lower()
+    for it in """low-y low-z high-x high-y high-z box-corners points-inside points-used corner-numbers neighbour-numbers
+    positive-volumes faces-on-walls volumes-add-up cell-count and-not zero-k above-r above-s level-with more-is corner-7 each-face
+    zero-times with-b to-less not-one zero-at lin-S lin-L zero-add held-e held-c more-one none-freed no-c no-e no-w no-o none-shared
+    every-list-without covers-without listingOf fileNodes plainStart meshAccepted plainOutcome plainInsert plainLook plainList
+    isMarked pointCap cellCap""".split()
+} | {"Plain-in": "plain_in", "Ac": "AC", "one_Cell": "one_cell"}
+ENGLISH = {"star-shaped"}
+
+
 # Names of a clause or of a constructor where no definition of the same spelling is near.
 BY_CRATE = {("on-wall", "calls"), ("on-wall", "pieces")}
 # One that is spelled like a field, and isn't one.
@@ -108,6 +121,8 @@ class Turner:
     def new(self, word, path, before, after, above=""):
         if path.startswith(BY_NAME.get(word, ("/",))[0]):
             return BY_NAME[word][1]
+        if word in MORE:
+            return MORE[word]
         if word not in self.rows:
             # port.py turned some in the sources, and no edit or page
             return snake(word) if path.endswith((".edit", ".md")) and word not in self.names and snake(word) in self.names else word
@@ -141,7 +156,7 @@ class Turner:
 
         out, at = [], 0
         for c in re.finditer(r"(?m)(?<![^\s(){};,])--(?=\s)[^\n]*|^ *--[^\n]*", text) if path.endswith(".antt") else []:
-            out += [self.part(text, at, c.start(), one), self.comment(c[0])]
+            out += [self.part(text, at, c.start(), one), self.comment(c[0], path)]
             at = c.end()
         if path.endswith(".antt"):
             return "".join(out) + self.part(text, at, len(text), one)
@@ -155,9 +170,18 @@ class Turner:
             at = m.end()
         return "".join(got) + text[at:end]
 
-    def comment(self, text):
-        """In prose only a name that no English word is spelled like turns."""
-        return re.sub(r"[\w'-]+", lambda m: self.rows.get(m[0], m[0]) if re.search("[a-z0-9][A-Z]", m[0]) and m[0] in self.rows else m[0], text)
+    def comment(self, text, path):
+        """In prose a name turns unless it is spelled like plain English."""
+
+        def one(m):
+            word = m[0]
+            if word in ENGLISH or not re.search("-|[a-z0-9][A-Z]", word):
+                return MORE.get(word, word) if word == "one_Cell" else word
+            if word in self.rows or word in MORE:
+                return self.new(word, path, "", "")
+            return snake(word) if word not in self.names and snake(word) in self.names else word
+
+        return re.sub(r"[\w'-]*\w", one, text)
 
     def page(self, text, path):
         def span(m):
@@ -169,7 +193,8 @@ class Turner:
         """A .rt file: in clauses and 'ghost use' items all names, elsewhere those in camel case."""
         dashes = re.compile(r"ghost use [^;]*;|(?:requires|ensures)\*?(?: \w+)? \{.*\}$|ghost[^;]*\{[^}]*\}", re.M)
         text = dashes.sub(lambda m: self.part(m[0], 0, len(m[0]), lambda w: self.new(w[0], path, "", "")), text)
-        return re.sub(r"[A-Za-z0-9]+", lambda m: self.rows[m[0]] if m[0] in self.rows and re.search("[a-z0-9][A-Z]", m[0]) else m[0], text)
+        camel = {**self.rows, **MORE}
+        return re.sub(r"[A-Za-z0-9]+", lambda m: camel[m[0]] if m[0] in camel and re.search("[a-z0-9][A-Z]", m[0]) else m[0], text)
 
 
 def types(text):

@@ -101,10 +101,10 @@ count_into (suc n) m p q R to one = go (λ q' to'. count_into n m p q' R to' one
 
     go : ((q' : ℕ → Bool) → Into q' → count_below n p ≤ count_below m q') → (p n ≡ true) ⊎ (p n ≡ false) → count_below (suc n) p ≤ count_below m q
     go ih (inr e) = omega (arith, count_no n p e, ih q (λ a h. to a (omega arith)))
-    go ih (inl e) = with-b (to n (omega arith) e)
+    go ih (inl e) = with_b (to n (omega arith) e)
       where
-        with-b : (b : ℕ) × (b < m) × ((q b ≡ true) × R n b) → count_below (suc n) p ≤ count_below m q
-        with-b (b, b<, (e₁, r)) = omega (arith, count_yes n p e, fewer, ih less to-less)
+        with_b : (b : ℕ) × (b < m) × ((q b ≡ true) × R n b) → count_below (suc n) p ≤ count_below m q
+        with_b (b, b<, (e₁, r)) = omega (arith, count_yes n p e, fewer, ih less to_less)
           where
             less : ℕ → Bool
             less c = q c && not (eqb c b)
@@ -119,8 +119,8 @@ count_into (suc n) m p q R to one = go (λ q' to'. count_into n m p q' R to' one
             fewer : count_below m q ≡ suc (count_below m less)
             fewer = count_added m less q b b< (rw (e₁, eq-eqb b b refl)) e₁ (λ c h d. off c d)
 
-            to-less : Into less
-            to-less a h f = at (to a (omega arith) f)
+            to_less : Into less
+            to_less a h f = at (to a (omega arith) f)
               where
                 at : (b : ℕ) × (b < m) × ((q b ≡ true) × R a b) → (b : ℕ) × (b < m) × ((less b ≡ true) × R a b)
                 at (b', l, (f₁, r₁)) = (b', l, (sym (off b' (λ x. absurd (omega (arith, one a n b (subst (R a) x r₁) r)))) ∙ f₁, r₁))

@@ -119,13 +119,13 @@ code_good t p s c =
     (hidden t p s (4 * c + 0)) (hidden t p s (4 * c + 1)) (hidden t p s (4 * c + 2)) (hidden t p s (4 * c + 3)) ∙
     (λ i. good 3 i && (good 2 i && (good 1 i && (good 0 i && true))))
   where
-    and-not : (a b : Bool) → not (a && not b) ≡ (not a || b)
-    and-not true true = refl
-    and-not true false = refl
-    and-not false b = refl
+    and_not : (a b : Bool) → not (a && not b) ≡ (not a || b)
+    and_not true true = refl
+    and_not true false = refl
+    and_not false b = refl
 
     good : (k : ℕ) → not (hidden t p s (4 * c + k)) ≡ (not (outer (across t) (in_set s) (4 * c + k)) || (coplanar t p (4 * c + k) || visible t p s (4 * c + k)))
-    good k = and-not (outer (across t) (in_set s) (4 * c + k)) (coplanar t p (4 * c + k) || visible t p s (4 * c + k))
+    good k = and_not (outer (across t) (in_set s) (4 * c + k)) (coplanar t p (4 * c + k) || visible t p s (4 * c + k))
 
 module _ (t : Tables) (n : ℕ) (n≤ : n ≤ 4096) (p : Position) (st : List ℕ) (links : (f : ℕ) → IsFace t n f → across t f ≢ none → across t f < n)
     (c : ℕ) (c< : IsCell t n c) (in? : inside st c ≡ true) where

@@ -20,7 +20,7 @@ base t n p = tabulate n (holds t p)
 unfoldable pub grown : Tables → ℕ → (ℕ → Bool) → List Bool → List Bool
 grown t n yes? s = tabulate n (λ c. in_set s c || ((live t c && yes? c) && any_below 4 (λ k. in_set s (across t (4 * c + k)))))
 
--- 'Spot: the base, and again and again each neighbour': n rounds reach the end (`cavity-fixed` in proofs/Growth)
+-- 'Spot: the base, and again and again each neighbour': n rounds reach the end (`cavity_fixed` in proofs/Growth)
 unfoldable pub cavity : Tables → ℕ → (ℕ → Bool) → List Bool → List Bool
 cavity t n yes? b = iterate n (grown t n yes?) b
 
@@ -53,7 +53,7 @@ marked t n p b s c = in_set s c && (not (in_set b c) && not (faces_good t p s c 
 unfoldable pub pruned : Tables → ℕ → Position → List Bool → List Bool → List Bool
 pruned t n p b s = tabulate n (λ c. in_set s c && not (marked t n p b s c))
 
--- 'Stop when none is marked.': n rounds reach the end (`corrected-fixed` in proofs/Correction)
+-- 'Stop when none is marked.': n rounds reach the end (`corrected_fixed` in proofs/Correction)
 unfoldable pub corrected : Tables → ℕ → Position → List Bool → List Bool → List Bool
 corrected t n p b s = iterate n (pruned t n p b) s
 

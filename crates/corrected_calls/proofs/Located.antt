@@ -1,4 +1,4 @@
--- Document 02 §3 and §11 over lists that hold settings and readings too: laws of lists without corrections, carried over by `as-without`.
+-- Document 02 §3 and §11 over lists that hold settings and readings too: laws of lists without corrections, carried over by `as_without`.
 use Prim.Native.Nat.{ℕ}
 use mathlib.Core.Bool.{true, false}
 use mathlib.Core.List.{List}

@@ -29,7 +29,7 @@ use Rattle.insertion.specs.Insertion.{node_refusal, first_of, insert_refusal, in
 use Rattle.insertion.specs.Look.{look_refusal, look_unless, look_call, marked_refusal, marked_call, cavity_marks, begins_with}
 use Rattle.insertion.specs.List.{listed_node, listed_count, insert_from, list_call}
 use Rattle.insertion.proofs.Refusals.{chain≤, up_to_eight, cells_full, refused_unless, unless_refused, node_accepted, node_refused}
-use Rattle.insertion.proofs.Steps.{list_begins, list_refused, node_in as Plain-in, node_out as plain_out}
+use Rattle.insertion.proofs.Steps.{list_begins, list_refused, node_in as plain_in, node_out as plain_out}
 use Rattle.covering.proofs.NeverSeven.{never_seven}
 use Rattle.corrections.specs.declared.Correction.{Correction}
 use Rattle.corrections.specs.declared.Corrected.TheVariants.{By, Refused as NotCorrected}
@@ -124,7 +124,7 @@ nodes_eight w ns (suc k) i m t = go (ℕ_discrete (node_refusal m t w (listed_no
   where
     go : Dec (node_refusal m t w (listed_node ns i) sphere ≡ 0) → ((m : Mesh) (t : Tables) → stop (insert_from k (suc i) m t w ns).answer ≤ 8) →
         stop (insert_from (suc k) i m t w ns).answer ≤ 8
-    go (yes z) ih = subst (λ l. stop l.answer ≤ 8) (sym (Plain-in m t w ns i k (node_accepted m t w (listed_node ns i) sphere z))) (ih _ _)
+    go (yes z) ih = subst (λ l. stop l.answer ≤ 8) (sym (plain_in m t w ns i k (node_accepted m t w (listed_node ns i) sphere z))) (ih _ _)
     go (no d) ih =
         subst (λ l. stop l.answer ≤ 8) (sym (plain_out m t w ns i k (node_refused m t w (listed_node ns i) sphere refl d))) (node_eight m t w (listed_node ns i) sphere)
 

@@ -26,8 +26,8 @@ use Rattle.insertion.specs.List.{listed_node, listed_count, insert_from, list_ca
 use Rattle.insertion.proofs.Refusals.{tests_passed, marked_passed, node_accepted, node_refused}
 use Rattle.insertion.proofs.Growing.{checks_again, same_point_capacity}
 use Rattle.insertion.proofs.Looking.{unless_stays}
-use Rattle.insertion.proofs.Steps.{list_begins, list_refused, node_in as Plain-in, node_out as plain_out}
-use Rattle.calls.specs.Calls.{by_sphere, by_answers, by_marks, by_list, look, record_after, record_after_list, accepted_node, accepted_nodes, Call as MeshCall, Outcome as MeshOutcome, insert_outcome as plainInsert, list_outcome as plainList, look_outcome as plainLook, outcome as plainOutcome}
+use Rattle.insertion.proofs.Steps.{list_begins, list_refused, node_in as plain_in, node_out as plain_out}
+use Rattle.calls.specs.Calls.{by_sphere, by_answers, by_marks, by_list, look, record_after, record_after_list, accepted_node, accepted_nodes, Call as MeshCall, Outcome as MeshOutcome, insert_outcome as plain_insert, list_outcome as plain_list, look_outcome as plain_look, outcome as plain_outcome}
 use Rattle.corrections.specs.Corrections.{out_of_range, too_short}
 use Rattle.corrections.specs.Calls.{Left, with_length, with_range, with_table, with_node, left_unless, insert_with, marked_with, look_with, insert_from_with, list_with}
 use Rattle.corrections.proofs.Refusals.{range_in, range_passed, length_long, length_short, length_passed, left_accepted, left_refused}
@@ -88,8 +88,8 @@ module _ (m : Mesh) (t : Tables) (cs : List ℤ) (p : Position) (a : Answers) (r
   abbrev left : Left Inserted
   left = left_unless (with_table m t cs r) m t cs p a
 
-  insert_same : Standing m t cs → Same (insert_outcome m p left) (plainInsert m p (insert_unless r m t p a))
-  unfolding insert_outcome plainInsert left_unless
+  insert_same : Standing m t cs → Same (insert_outcome m p left) (plain_insert m p (insert_unless r m t p a))
+  unfolding insert_outcome plain_insert left_unless
   insert_same S = let q = stands m t cs S r in record { after = rw q; accepted = rw q }
 
   insert_nothing : with_table m t cs r ≢ 0 → Nothing (built m t cs) (insert_outcome m p left)
@@ -133,7 +133,7 @@ module _ (m₀ : Mesh) (w : ℕ) (ns : List ℕ) where
           ListSame m₀ (insert_from_with k (suc i) (inserted_mesh m t p sphere) (inserted_tables m t p sphere) (with_node m t cs p) w ns) (insert_from k (suc i) (inserted_mesh m t p sphere) (inserted_tables m t p sphere) w ns)) →
           Dec (node_refusal m t w p sphere ≡ 0) → ListSame m₀ (insert_from_with (suc k) i m t cs w ns) (insert_from (suc k) i m t w ns)
       go rest (yes z) =
-          rw (node_in m t cs w ns i k (left_accepted m t cs p sphere (is ∙ z)), Plain-in m t w ns i k (node_accepted m t w p sphere z))
+          rw (node_in m t cs w ns i k (left_accepted m t cs p sphere (is ∙ z)), plain_in m t w ns i k (node_accepted m t w p sphere z))
           (rest (checks_again m t w p sphere M z) (unfold inserted_mesh in in_range_after m t cs w p sphere M z l e)
           (omega (arith, l, same_point_capacity m t p sphere, node_length m t cs p)))
       go rest (no d) =
@@ -174,18 +174,18 @@ module _ (m : Mesh) (t : Tables) (cs : List ℤ) (w : ℕ) (ns : List ℕ) where
 -- ---- a call
 
 module _ (m : Mesh) (t : Tables) (cs : List ℤ) where
-  pub call_same : Standing m t cs → (c : MeshCall) → Same (mesh_outcome m t cs c) (plainOutcome record { mesh = m; tables = t } c)
-  call_same S (by_sphere w p) = unfold mesh_outcome plainOutcome insert_with insert_call in insert_same m t cs p sphere (insert_refusal m t w p sphere) S
-  call_same S (by_answers w bytes p) = unfold mesh_outcome plainOutcome insert_with insert_call in insert_same m t cs p (handed bytes) (insert_refusal m t w p (handed bytes)) S
+  pub call_same : Standing m t cs → (c : MeshCall) → Same (mesh_outcome m t cs c) (plain_outcome record { mesh = m; tables = t } c)
+  call_same S (by_sphere w p) = unfold mesh_outcome plain_outcome insert_with insert_call in insert_same m t cs p sphere (insert_refusal m t w p sphere) S
+  call_same S (by_answers w bytes p) = unfold mesh_outcome plain_outcome insert_with insert_call in insert_same m t cs p (handed bytes) (insert_refusal m t w p (handed bytes)) S
   call_same S (by_marks w marks p) =
-      unfold mesh_outcome plainOutcome marked_with marked_call in insert_same m t cs p sphere (marked_refusal (insert_refusal m t w p sphere) m t p sphere marks) S
+      unfold mesh_outcome plain_outcome marked_with marked_call in insert_same m t cs p sphere (marked_refusal (insert_refusal m t w p sphere) m t p sphere marks) S
   call_same S (by_list w ns) =
       let L = list_same m t cs w ns S in
-      unfold mesh_outcome plainOutcome list_outcome plainList in
+      unfold mesh_outcome plain_outcome list_outcome plain_list in
       record { after = λ i. record { mesh = record_after_list m (L.answer i); tables = L.tables i }; accepted = ap (accepted_nodes ns) L.answer }
   call_same S (look w marks p) =
       let q = stands m t cs S (look_refusal (insert_refusal m t w p sphere) m marks) in
-      unfold mesh_outcome plainOutcome look_outcome plainLook look_with look_call in record { after = rw q; accepted = refl }
+      unfold mesh_outcome plain_outcome look_outcome plain_look look_with look_call in record { after = rw q; accepted = refl }
 
   pub call_nothing : ((r : ℕ) → with_table m t cs r ≢ 0) → (c : MeshCall) → Nothing (built m t cs) (mesh_outcome m t cs c)
   call_nothing none (by_sphere w p) = unfold mesh_outcome insert_with in insert_nothing m t cs p sphere (insert_refusal m t w p sphere) (none _)

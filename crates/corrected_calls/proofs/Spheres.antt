@@ -12,7 +12,7 @@ use Rattle.insertion.specs.declared.Report.{Report}
 use Rattle.insertion.specs.declared.Inserted.TheVariants.{Accepted}
 use Rattle.insertion.specs.Insertion.{insert_refusal, insert_unless, insert_call}
 use Rattle.insertion.proofs.Refusals.{accepted_unless}
-use Rattle.calls.specs.Calls.{Call as MeshCall, start_build as plainStart}
+use Rattle.calls.specs.Calls.{Call as MeshCall, start_build as plain_start}
 use Rattle.spheres.specs.Claim.{OwnCall, OwnCalls, EmptySpheres, EqualSizes}
 use Rattle.spheres.proofs.Theorem.{own_spheres, own_reports}
 use Rattle.corrections.specs.Calls.{with_length, left_unless, insert_with}
@@ -46,7 +46,7 @@ module _ (X Y Z : ℕ) (t : Tables) (cs : List ℤ) (w : ℕ) (e : with_length t
   abbrev start : Build
   start = start_build X Y Z t cs w
 
-  picked : OwnCalls (plainStart X Y Z t w) (as_without start calls).calls
+  picked : OwnCalls (plain_start X Y Z t w) (as_without start calls).calls
   picked = subst (λ b. OwnCalls b (as_without start calls).calls) (bare_start X Y Z t cs w e) (picked_own start (as_without start calls).picked own)
 
   spheres : EmptySpheres (bare (build_after start calls))

@@ -25,10 +25,10 @@ use Rattle.mesh.proofs.Valid.{valid_of, passed}
 use Rattle.locate.specs.Locate.{holds, first_holder, locate_refusal}
 use Rattle.locate.proofs.First.{holder_is_first}
 use Rattle.covering.specs.Claim.{Covering}
-use Rattle.covering.proofs.Theorem.{checked_covering, some_holds, every_list_covers as covers-without}
+use Rattle.covering.proofs.Theorem.{checked_covering, some_holds, every_list_covers as covers_without}
 use Rattle.insertion.proofs.Refusals.{test_to_zero, both_pass}
-use Rattle.calls.specs.Calls.{mesh_after, accepted_by as meshAccepted, Call as MeshCall, outcome as mesh_outcome, start_build as plainStart, Claim as MeshClaim}
-use Rattle.calls.proofs.Calls.{every_list_of_calls as every-list-without}
+use Rattle.calls.specs.Calls.{mesh_after, accepted_by as mesh_accepted, Call as MeshCall, outcome as mesh_outcome, start_build as plain_start, Claim as MeshClaim}
+use Rattle.calls.proofs.Calls.{every_list_of_calls as every_list_without}
 use Rattle.corrections.specs.declared.Correction.{Correction}
 use Rattle.corrections.specs.declared.Corrected.TheVariants.{By}
 use Rattle.corrections.specs.Corrections.{out_of_range, too_short, in_range, with_correction, correction_at}
@@ -55,11 +55,11 @@ picked_after none = refl
 picked_after {ms = c ∷ ms} (taken s P) = picked_after P ∙ ap (λ b. mesh_after b ms) s.after
 picked_after {ms} (passed_over e a P) = picked_after P ∙ ap (λ b. mesh_after b ms) e
 
-picked_accepted : {b : Build} {ms : List MeshCall} {cs : List Call} → Picked b ms cs → accepted_by b cs ≡ meshAccepted (bare b) ms
-unfolding accepted_by meshAccepted
+picked_accepted : {b : Build} {ms : List MeshCall} {cs : List Call} → Picked b ms cs → accepted_by b cs ≡ mesh_accepted (bare b) ms
+unfolding accepted_by mesh_accepted
 picked_accepted none = refl
-picked_accepted {ms = c ∷ ms} (taken s P) = ap₂ (λ ps qs. ps ++ qs) s.accepted (picked_accepted P ∙ ap (λ b. meshAccepted b ms) s.after)
-picked_accepted {ms} (passed_over e a P) = ap₂ (λ ps qs. ps ++ qs) a (picked_accepted P ∙ ap (λ b. meshAccepted b ms) e)
+picked_accepted {ms = c ∷ ms} (taken s P) = ap₂ (λ ps qs. ps ++ qs) s.accepted (picked_accepted P ∙ ap (λ b. mesh_accepted b ms) s.after)
+picked_accepted {ms} (passed_over e a P) = ap₂ (λ ps qs. ps ++ qs) a (picked_accepted P ∙ ap (λ b. mesh_accepted b ms) e)
 
 pub record Without (b : Build) (cs : List Call) : Type 0 where
   pub calls : List MeshCall
@@ -125,10 +125,10 @@ module _ (m : Mesh) (t : Tables) (cs : List ℤ) (w v : ℕ) (d : Correction) wh
 -- eight points' numbers are 0 after a start
 pub started_range : (cs : List ℤ) → out_of_range 8 (corners_cleared cs) ≡ false
 unfolding in_range
-started_range cs = range_intro 8 (corners_cleared cs) (λ i h. ap in_range (zero-at i h))
+started_range cs = range_intro 8 (corners_cleared cs) (λ i h. ap in_range (zero_at i h))
   where
-    zero-at : (i : ℕ) → i < 24 → get_or (corners_cleared cs) i (pos 0) ≡ pos 0
-    zero-at i h = unfold corners_cleared in get_or-append (replicate 24 (pos 0)) (drop 24 cs) (pos 0) i h ∙ get_or-replicate 24 i (pos 0) (pos 0) h
+    zero_at : (i : ℕ) → i < 24 → get_or (corners_cleared cs) i (pos 0) ≡ pos 0
+    zero_at i h = unfold corners_cleared in get_or-append (replicate 24 (pos 0)) (drop 24 cs) (pos 0) i h ∙ get_or-replicate 24 i (pos 0) (pos 0) h
 
 ranges : (b : Build) (cs : List Call) → InRange b → InRange (build_after b cs)
 unfolding build_after outcome
@@ -146,12 +146,12 @@ module _ (X Y Z : ℕ) (t : Tables) (cs : List ℤ) (w : ℕ) (e : with_length t
   pub start_accepted : start_refusal X Y Z t w ≡ 0
   start_accepted = (length_passed t cs _ e).1
 
-  pub bare_start : bare start ≡ plainStart X Y Z t w
-  unfolding start_build start_with plainStart start_tables
+  pub bare_start : bare start ≡ plain_start X Y Z t w
+  unfolding start_build start_with plain_start start_tables
   bare_start = rw (e, start_accepted)
 
   -- what is left after the start is what the picked calls leave after the start without corrections
-  pub start_after : (calls : List Call) → bare (build_after start calls) ≡ mesh_after (plainStart X Y Z t w) (as_without start calls).calls
+  pub start_after : (calls : List Call) → bare (build_after start calls) ≡ mesh_after (plain_start X Y Z t w) (as_without start calls).calls
   start_after calls = let W = as_without start calls in picked_after W.picked ∙ ap (λ b. mesh_after b W.calls) bare_start
 
   start_range : InRange start
@@ -165,16 +165,16 @@ module _ (X Y Z : ℕ) (t : Tables) (cs : List ℤ) (w : ℕ) (e : with_length t
       record {
         mesh =
             subst (λ b. MeshClaim X Y Z b (accepted_by start calls)) (sym (start_after calls))
-            (subst (MeshClaim X Y Z (mesh_after (plainStart X Y Z t w) W.calls)) (sym (picked_accepted W.picked ∙ ap (λ b. meshAccepted b W.calls) bare_start))
-            (every-list-without X Y Z t w start_accepted W.calls));
+            (subst (MeshClaim X Y Z (mesh_after (plain_start X Y Z t w) W.calls)) (sym (picked_accepted W.picked ∙ ap (λ b. mesh_accepted b W.calls) bare_start))
+            (every_list_without X Y Z t w start_accepted W.calls));
         range = ranges start calls start_range;
       }
 
-  -- no place is uncovered and none strictly inside two cells: a law of lists without corrections, carried over by `as-without`
+  -- no place is uncovered and none strictly inside two cells: a law of lists without corrections, carried over by `as_without`
   pub every_list_covers : (calls : List Call) → let b = build_after start calls in Covering X Y Z b.mesh.used b.tables
   every_list_covers calls =
       let W = as_without start calls in
-      subst (λ b. Covering X Y Z b.mesh.used b.tables) (sym (start_after calls)) (covers-without X Y Z t w start_accepted W.calls)
+      subst (λ b. Covering X Y Z b.mesh.used b.tables) (sym (start_after calls)) (covers_without X Y Z t w start_accepted W.calls)
 
 -- ---- WHAT WAS SET IS READ AT THE POINT
 

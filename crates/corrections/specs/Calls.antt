@@ -94,7 +94,7 @@ unfoldable pub look_with : Mesh → Tables → List ℤ → ℕ → Position →
 look_with m t cs w p marks = look_unless (with_table m t cs (look_refusal (insert_refusal m t w p sphere) m marks)) m t p marks
 
 -- k nodes from place i on, after tests 1 to 3. A node's 12 stops the list at its place: at place 0, since an accepted node leaves all in
--- range (`in-range-after` in proofs/Keeping).
+-- range (`in_range_after` in proofs/Keeping).
 unfoldable pub insert_from_with : ℕ → ℕ → Mesh → Tables → List ℤ → ℕ → List ℕ → Left Listed
 insert_from_with zero i m t cs w ns = record { answer = Ended m i; tables = t; corrections = cs }
 insert_from_with (suc k) i m t cs w ns =

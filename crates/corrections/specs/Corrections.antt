@@ -45,6 +45,6 @@ unfoldable pub correction_in : Tables → List ℤ → Position → ℕ → Corr
 correction_in t cs p c =
     record { x = value_in t p (number_of cs 0) c; y = value_in t p (number_of cs 1) c; z = value_in t p (number_of cs 2) c }
 
--- a position's correction, from the cell of n entries in which it is located; every other cell that holds it gives the same (`from-every-holder` in proofs/Values)
+-- a position's correction, from the cell of n entries in which it is located; every other cell that holds it gives the same (`from_every_holder` in proofs/Values)
 unfoldable pub correction_at : Tables → ℕ → List ℤ → Position → Correction
 correction_at t n cs p = correction_in t cs p (first_holder t n p)

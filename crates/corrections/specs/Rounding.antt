@@ -3,7 +3,7 @@ use Rattle.std.specs.Prelude.{◌+◌, ◌*◌, ◌/◌, cond, ℤ, pos, nat_abs
 use Rattle.std.specs.Int.Signed.{lt_z}
 
 -- r is s over v, for v above 0, so rounded: it is off by a half at most, and of two numbers that are, the farther from 0. Just one number is:
--- `just-one` and `rounded-is` (proofs/Rounding).
+-- `just_one` and `rounded_is` (proofs/Rounding).
 pub record Nearest (s v r : ℤ) : Type 0 where
   pub not_above : (v *ℤ (pos 2 *ℤ r -ℤ pos 1)) ≤ℤ (pos 2 *ℤ s)
   pub not_below : (pos 2 *ℤ s) ≤ℤ (v *ℤ (pos 2 *ℤ r +ℤ pos 1))

@@ -68,7 +68,7 @@ outweighs_off N u w h d e = go (trichotomy (pos 0) u)
 
 -- ---- a place off finitely many planes
 
-module _ (r : ℕ) (S : ℕ → Place → ℤ) (lin-S : (k : ℕ) → Linear (S k)) (L : ℕ → Place → ℤ) (lin-L : (k : ℕ) → Linear (L k)) (e : ℕ → Place) where
+module _ (r : ℕ) (S : ℕ → Place → ℤ) (lin_s : (k : ℕ) → Linear (S k)) (L : ℕ → Place → ℤ) (lin_l : (k : ℕ) → Linear (L k)) (e : ℕ → Place) where
   pub record Avoids (j : ℕ) (x₀ x : Place) : Type 0 where
     pub keeps : (k : ℕ) → k < r → pos 0 <ℤ S k x₀ → pos 0 <ℤ S k x
     pub keeps_below : (k : ℕ) → k < r → S k x₀ <ℤ pos 0 → S k x <ℤ pos 0
@@ -96,12 +96,12 @@ module _ (r : ℕ) (S : ℕ → Place → ℤ) (lin-S : (k : ℕ) → Linear (S 
             mix N x 1 (e j),
             record {
               keeps = λ k h l.
-                  subst (λ u. pos 0 <ℤ u) (sym (lin-S k N x 1 (e j)))
+                  subst (λ u. pos 0 <ℤ u) (sym (lin_s k N x 1 (e j)))
                   (outweighs N (S k x) (S k (e j)) (omega (arith, over_each r (λ k. S k (e j)) k h)) (A.keeps k h l));
               keeps_below = λ k h l.
-                  subst (λ u. u <ℤ pos 0) (sym (lin-S k N x 1 (e j)))
+                  subst (λ u. u <ℤ pos 0) (sym (lin_s k N x 1 (e j)))
                   (outweighs_neg N (S k x) (S k (e j)) (omega (arith, over_each r (λ k. S k (e j)) k h)) (A.keeps_below k h l));
-              off = λ k h l u. at k h l (ℕ_discrete k j) (sym (lin-L k N x 1 (e j)) ∙ u);
+              off = λ k h l u. at k h l (ℕ_discrete k j) (sym (lin_l k N x 1 (e j)) ∙ u);
             },
           )
             where

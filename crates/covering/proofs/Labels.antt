@@ -18,7 +18,7 @@ use Rattle.arith.proofs.Combine.{hyp, combine}
 use Rattle.geometry.specs.declared.Position.{Position}
 use Rattle.geometry.specs.Volume.{volume6, volume}
 use Rattle.mesh.specs.Tables.{Tables, point, corner, corner_at, cell_volume}
-use Rattle.mesh.specs.Mesh.{Wall, low_x, low-y, low-z, high-x, high-y, high-z, IsMesh}
+use Rattle.mesh.specs.Mesh.{Wall, low_x, low_y, low_z, high_x, high_y, high_z, IsMesh}
 use Rattle.mesh.proofs.Room.{Room}
 use Rattle.covering.proofs.Linear.{Row, row, rowsₑ, sixₑ}
 use Rattle.covering.proofs.Closed.{corners_by, sum_of, Part, ◌of◌, sums_of, triples, On, closed}
@@ -119,14 +119,14 @@ pushed_g h₀ h₁ h₂ u₀ u₁ u₂ g =
 
 abbrev label_rest : (ℕ → ℕ) → (ℕ → ℕ) → (ℕ → ℕ) → List Coplanar
 label_rest A B C =
-    pos 1 times AB and Ac ∷ negsuc 0 times AB and BC ∷ pos 1 times Ac and BC ∷ pos 2 times B and ABC ∷ negsuc 1 times C and ABC ∷
-    negsuc 0 times AB and ABC ∷ pos 1 times Ac and ABC ∷ pos 3 times BC and ABC ∷ []
+    pos 1 times AB and AC ∷ negsuc 0 times AB and BC ∷ pos 1 times AC and BC ∷ pos 2 times B and ABC ∷ negsuc 1 times C and ABC ∷
+    negsuc 0 times AB and ABC ∷ pos 1 times AC and ABC ∷ pos 3 times BC and ABC ∷ []
   where
     AB : ℕ → ℕ
     AB v = A v * B v
 
-    Ac : ℕ → ℕ
-    Ac v = A v * C v
+    AC : ℕ → ℕ
+    AC v = A v * C v
 
     BC : ℕ → ℕ
     BC v = B v * C v
@@ -289,33 +289,33 @@ module _ {X Y Z pc cc np n : ℕ} {t : Tables} (M : IsMesh X Y Z pc cc np n t) (
     where
       flat : (w : Wall) (a b c : ℕ) → On M R w a → On M R w b → On M R w c → triples (push_parts (λ v. rest X (px v)) py pz) a b c ≡ pos 0
       flat low_x a b c p q r = by_h (λ v. rest X (px v)) py pz a b c (rest_low X (px a) p) (rest_low X (px b) q) (rest_low X (px c) r)
-      flat high-x a b c p q r = by_h (λ v. rest X (px v)) py pz a b c (rest_at X (px a) p) (rest_at X (px b) q) (rest_at X (px c) r)
-      flat low-y a b c p q r = by_u (λ v. rest X (px v)) py pz a b c 0 p q r
-      flat high-y a b c p q r = by_u (λ v. rest X (px v)) py pz a b c Y p q r
-      flat low-z a b c p q r = by_g (λ v. rest X (px v)) py pz a b c 0 p q r
-      flat high-z a b c p q r = by_g (λ v. rest X (px v)) py pz a b c Z p q r
+      flat high_x a b c p q r = by_h (λ v. rest X (px v)) py pz a b c (rest_at X (px a) p) (rest_at X (px b) q) (rest_at X (px c) r)
+      flat low_y a b c p q r = by_u (λ v. rest X (px v)) py pz a b c 0 p q r
+      flat high_y a b c p q r = by_u (λ v. rest X (px v)) py pz a b c Y p q r
+      flat low_z a b c p q r = by_g (λ v. rest X (px v)) py pz a b c 0 p q r
+      flat high_z a b c p q r = by_g (λ v. rest X (px v)) py pz a b c Z p q r
 
   push_y : sum_of t n (at₃ (λ v. rest Y (py v)) (λ v. X * tx v) pz) ≡ pos 0
   push_y = push (λ v. rest Y (py v)) (λ v. X * tx v) pz flat
     where
       flat : (w : Wall) (a b c : ℕ) → On M R w a → On M R w b → On M R w c → triples (push_parts (λ v. rest Y (py v)) (λ v. X * tx v) pz) a b c ≡ pos 0
-      flat low-y a b c p q r = by_h (λ v. rest Y (py v)) (λ v. X * tx v) pz a b c (rest_low Y (py a) p) (rest_low Y (py b) q) (rest_low Y (py c) r)
-      flat high-y a b c p q r = by_h (λ v. rest Y (py v)) (λ v. X * tx v) pz a b c (rest_at Y (py a) p) (rest_at Y (py b) q) (rest_at Y (py c) r)
+      flat low_y a b c p q r = by_h (λ v. rest Y (py v)) (λ v. X * tx v) pz a b c (rest_low Y (py a) p) (rest_low Y (py b) q) (rest_low Y (py c) r)
+      flat high_y a b c p q r = by_h (λ v. rest Y (py v)) (λ v. X * tx v) pz a b c (rest_at Y (py a) p) (rest_at Y (py b) q) (rest_at Y (py c) r)
       flat low_x a b c p q r = by_u (λ v. rest Y (py v)) (λ v. X * tx v) pz a b c (X * top X 0) (ap (λ m. X * top X m) p) (ap (λ m. X * top X m) q) (ap (λ m. X * top X m) r)
-      flat high-x a b c p q r = by_u (λ v. rest Y (py v)) (λ v. X * tx v) pz a b c (X * top X X) (ap (λ m. X * top X m) p) (ap (λ m. X * top X m) q) (ap (λ m. X * top X m) r)
-      flat low-z a b c p q r = by_g (λ v. rest Y (py v)) (λ v. X * tx v) pz a b c 0 p q r
-      flat high-z a b c p q r = by_g (λ v. rest Y (py v)) (λ v. X * tx v) pz a b c Z p q r
+      flat high_x a b c p q r = by_u (λ v. rest Y (py v)) (λ v. X * tx v) pz a b c (X * top X X) (ap (λ m. X * top X m) p) (ap (λ m. X * top X m) q) (ap (λ m. X * top X m) r)
+      flat low_z a b c p q r = by_g (λ v. rest Y (py v)) (λ v. X * tx v) pz a b c 0 p q r
+      flat high_z a b c p q r = by_g (λ v. rest Y (py v)) (λ v. X * tx v) pz a b c Z p q r
 
   push_z : sum_of t n (at₃ (λ v. rest Z (pz v)) (λ v. X * tx v) (λ v. Y * ty v)) ≡ pos 0
   push_z = push (λ v. rest Z (pz v)) (λ v. X * tx v) (λ v. Y * ty v) flat
     where
       flat : (w : Wall) (a b c : ℕ) → On M R w a → On M R w b → On M R w c → triples (push_parts (λ v. rest Z (pz v)) (λ v. X * tx v) (λ v. Y * ty v)) a b c ≡ pos 0
-      flat low-z a b c p q r = by_h (λ v. rest Z (pz v)) (λ v. X * tx v) (λ v. Y * ty v) a b c (rest_low Z (pz a) p) (rest_low Z (pz b) q) (rest_low Z (pz c) r)
-      flat high-z a b c p q r = by_h (λ v. rest Z (pz v)) (λ v. X * tx v) (λ v. Y * ty v) a b c (rest_at Z (pz a) p) (rest_at Z (pz b) q) (rest_at Z (pz c) r)
+      flat low_z a b c p q r = by_h (λ v. rest Z (pz v)) (λ v. X * tx v) (λ v. Y * ty v) a b c (rest_low Z (pz a) p) (rest_low Z (pz b) q) (rest_low Z (pz c) r)
+      flat high_z a b c p q r = by_h (λ v. rest Z (pz v)) (λ v. X * tx v) (λ v. Y * ty v) a b c (rest_at Z (pz a) p) (rest_at Z (pz b) q) (rest_at Z (pz c) r)
       flat low_x a b c p q r = by_u (λ v. rest Z (pz v)) (λ v. X * tx v) (λ v. Y * ty v) a b c (X * top X 0) (ap (λ m. X * top X m) p) (ap (λ m. X * top X m) q) (ap (λ m. X * top X m) r)
-      flat high-x a b c p q r = by_u (λ v. rest Z (pz v)) (λ v. X * tx v) (λ v. Y * ty v) a b c (X * top X X) (ap (λ m. X * top X m) p) (ap (λ m. X * top X m) q) (ap (λ m. X * top X m) r)
-      flat low-y a b c p q r = by_g (λ v. rest Z (pz v)) (λ v. X * tx v) (λ v. Y * ty v) a b c (Y * top Y 0) (ap (λ m. Y * top Y m) p) (ap (λ m. Y * top Y m) q) (ap (λ m. Y * top Y m) r)
-      flat high-y a b c p q r = by_g (λ v. rest Z (pz v)) (λ v. X * tx v) (λ v. Y * ty v) a b c (Y * top Y Y) (ap (λ m. Y * top Y m) p) (ap (λ m. Y * top Y m) q) (ap (λ m. Y * top Y m) r)
+      flat high_x a b c p q r = by_u (λ v. rest Z (pz v)) (λ v. X * tx v) (λ v. Y * ty v) a b c (X * top X X) (ap (λ m. X * top X m) p) (ap (λ m. X * top X m) q) (ap (λ m. X * top X m) r)
+      flat low_y a b c p q r = by_g (λ v. rest Z (pz v)) (λ v. X * tx v) (λ v. Y * ty v) a b c (Y * top Y 0) (ap (λ m. Y * top Y m) p) (ap (λ m. Y * top Y m) q) (ap (λ m. Y * top Y m) r)
+      flat high_y a b c p q r = by_g (λ v. rest Z (pz v)) (λ v. X * tx v) (λ v. Y * ty v) a b c (Y * top Y Y) (ap (λ m. Y * top Y m) p) (ap (λ m. Y * top Y m) q) (ap (λ m. Y * top Y m) r)
 
   -- every coordinate pushed to its two walls
   corners_sum : sum_of t n (at₃ px py pz) ≡ sum_of t n (at₃ tx ty tz) *ℤ (pos X *ℤ pos Y *ℤ pos Z)
@@ -343,15 +343,15 @@ module _ {X Y Z pc cc np n : ℕ} {t : Tables} (M : IsMesh X Y Z pc cc np n t) (
       flat : (w : Wall) (a b c : ℕ) → On M R w a → On M R w b → On M R w c → triples (label_parts tx ty tz) a b c ≡ pos 0
       flat low_x a b c p q r =
           (λ i. labelled (off X (px a) M.side_x.low p i) (off X (px b) M.side_x.low q i) (off X (px c) M.side_x.low r i) (ty a) (ty b) (ty c) (tz a) (tz b) (tz c)) ∙ labelled_A0 (ty a) (ty b) (ty c) (tz a) (tz b) (tz c)
-      flat high-x a b c p q r =
+      flat high_x a b c p q r =
           (λ i. labelled (top_at X (px a) p i) (top_at X (px b) q i) (top_at X (px c) r i) (ty a) (ty b) (ty c) (tz a) (tz b) (tz c)) ∙ labelled_A1 (ty a) (ty b) (ty c) (tz a) (tz b) (tz c)
-      flat low-y a b c p q r =
+      flat low_y a b c p q r =
           (λ i. labelled (tx a) (tx b) (tx c) (off Y (py a) M.side_y.low p i) (off Y (py b) M.side_y.low q i) (off Y (py c) M.side_y.low r i) (tz a) (tz b) (tz c)) ∙ labelled_B0 (tx a) (tx b) (tx c) (tz a) (tz b) (tz c)
-      flat high-y a b c p q r =
+      flat high_y a b c p q r =
           (λ i. labelled (tx a) (tx b) (tx c) (top_at Y (py a) p i) (top_at Y (py b) q i) (top_at Y (py c) r i) (tz a) (tz b) (tz c)) ∙ labelled_B1 (tx a) (tx b) (tx c) (tz a) (tz b) (tz c)
-      flat low-z a b c p q r =
+      flat low_z a b c p q r =
           (λ i. labelled (tx a) (tx b) (tx c) (ty a) (ty b) (ty c) (off Z (pz a) M.side_z.low p i) (off Z (pz b) M.side_z.low q i) (off Z (pz c) M.side_z.low r i)) ∙ labelled_C0 (tx a) (tx b) (tx c) (ty a) (ty b) (ty c)
-      flat high-z a b c p q r =
+      flat high_z a b c p q r =
           (λ i. labelled (tx a) (tx b) (tx c) (ty a) (ty b) (ty c) (top_at Z (pz a) p i) (top_at Z (pz b) q i) (top_at Z (pz c) r i)) ∙ labelled_C1 (tx a) (tx b) (tx c) (ty a) (ty b) (ty c)
 
   six_labels : pos 6 *ℤ sum_of t n label ≡ sum_of t n (at₃ tx ty tz)

@@ -29,7 +29,7 @@ row₃ p = record { x = pos p.x; y = pos p.y; z = pos p.z }
 abbrev det₃ : Place → Place → Place → ℤ
 det₃ a b c = det3_of ℤ ◌+ℤ◌ ◌-ℤ◌ ◌*ℤ◌ (row₃ a) (row₃ b) (row₃ c)
 
--- The determinant of four rows (x, y, z, w), with the sign that gives the six-fold volume where each w is 1 (`volume-whole`).
+-- The determinant of four rows (x, y, z, w), with the sign that gives the six-fold volume where each w is 1 (`volume_whole`).
 unfoldable pub row_volume : (ℕ → Place) → ℤ
 row_volume s =
     pos (s 0).w *ℤ det₃ (s 1) (s 2) (s 3) -ℤ pos (s 1).w *ℤ det₃ (s 0) (s 2) (s 3)
@@ -43,7 +43,7 @@ replaced_row s i q k = cond (eqb k i) q (s k)
 abbrev pub placed : Tables → ℕ → ℕ → Place
 placed t c k = whole (corner_at t c k)
 
--- above 0 at places strictly on the cell's side: times w² it is `side_at` (`side-form` in proofs/Parts)
+-- above 0 at places strictly on the cell's side: times w² it is `side_at` (`side_form` in proofs/Parts)
 unfoldable pub form : Tables → Place → ℕ → ℤ
 form t q f = row_volume (replaced_row (placed t (cell_of f)) (opposite f) q)
 

@@ -332,7 +332,7 @@ module _ {X Y Z pc cc np n : ℕ} {t : Tables} (M : IsMesh X Y Z pc cc np n t) (
 
     not_missing : Missing X Y Z s → ⊥
     unfolding s target
-    not_missing (no_corner no-c) = end (convex M c c< (target X Y Z a b d) held 0 0 0 (X + Y + Z) 1 1 1 1 (λ k h. each (s k) (in_box_lem k h) (no-c k h) (kind X Y Z (s k))))
+    not_missing (no_corner no_c) = end (convex M c c< (target X Y Z a b d) held 0 0 0 (X + Y + Z) 1 1 1 1 (λ k h. each (s k) (in_box_lem k h) (no_c k h) (kind X Y Z (s k))))
       where
         each : (p : Position) → InBox X Y Z p → (IsCorner X Y Z p → ⊥) → Kind X Y Z p → nlin 1 1 1 1 (whole p) ≤ nlin 0 0 0 (X + Y + Z) (whole p)
         each p i n (corner_point u) = absurd (n u)
@@ -342,7 +342,7 @@ module _ {X Y Z pc cc np n : ℕ} {t : Tables} (M : IsMesh X Y Z pc cc np n t) (
 
         end : nlin 1 1 1 1 (target X Y Z a b d) ≤ nlin 0 0 0 (X + Y + Z) (target X Y Z a b d) → ⊥
         end h = omega arith
-    not_missing (no_edge no-e) = end (convex M c c< (target X Y Z a b d) held 1 0 0 (X * (Y + Z)) 0 X X X (λ k h. each (s k) (in_box_lem k h) (no-e k h) (kind X Y Z (s k))))
+    not_missing (no_edge no_e) = end (convex M c c< (target X Y Z a b d) held 1 0 0 (X * (Y + Z)) 0 X X X (λ k h. each (s k) (in_box_lem k h) (no_e k h) (kind X Y Z (s k))))
       where
         each : (p : Position) → InBox X Y Z p → (IsEdge X Y Z p → ⊥) → Kind X Y Z p → nlin 0 X X X (whole p) ≤ nlin 1 0 0 (X * (Y + Z)) (whole p)
         each p i n (corner_point u) = omega (arith, ap (λ m. X * m) u.iy, ap (λ m. X * m) u.iz)
@@ -352,7 +352,7 @@ module _ {X Y Z pc cc np n : ℕ} {t : Tables} (M : IsMesh X Y Z pc cc np n t) (
 
         end : nlin 0 X X X (target X Y Z a b d) ≤ nlin 1 0 0 (X * (Y + Z)) (target X Y Z a b d) → ⊥
         end h = omega (arith, ap (λ m. X * m) hb, M.side_x.low)
-    not_missing (no_wall no-w) = end (convex M c c< (target X Y Z a b d) held 0 1 0 (Y * Z) 0 0 Y Y (λ k h. each (s k) (in_box_lem k h) (no-w k h) (kind X Y Z (s k))))
+    not_missing (no_wall no_w) = end (convex M c c< (target X Y Z a b d) held 0 1 0 (Y * Z) 0 0 Y Y (λ k h. each (s k) (in_box_lem k h) (no_w k h) (kind X Y Z (s k))))
       where
         each : (p : Position) → InBox X Y Z p → (IsWall X Y Z p → ⊥) → Kind X Y Z p → nlin 0 0 Y Y (whole p) ≤ nlin 0 1 0 (Y * Z) (whole p)
         each p i n (corner_point u) = omega (arith, u.iy, ap (λ m. Y * m) u.iz)
@@ -362,7 +362,7 @@ module _ {X Y Z pc cc np n : ℕ} {t : Tables} (M : IsMesh X Y Z pc cc np n t) (
 
         end : nlin 0 0 Y Y (target X Y Z a b d) ≤ nlin 0 1 0 (Y * Z) (target X Y Z a b d) → ⊥
         end h = omega (arith, ap (λ m. Y * m) hd, M.side_y.low)
-    not_missing (no_other no-o) = end (convex M c c< (target X Y Z a b d) held 0 0 1 0 0 0 0 Z (λ k h. each (s k) (no-o k h)))
+    not_missing (no_other no_o) = end (convex M c c< (target X Y Z a b d) held 0 0 1 0 0 0 0 Z (λ k h. each (s k) (no_o k h)))
       where
         each : (p : Position) → p.z ≡ Z → nlin 0 0 0 Z (whole p) ≤ nlin 0 0 1 0 (whole p)
         each p e = omega arith

@@ -195,18 +195,18 @@ module _ {X Y Z pc cc np n : ℕ} {t : Tables} (M : IsMesh X Y Z pc cc np n t) (
         go (inr (inl e)) = inl (sym e)
         go (inr (inr l)) = absurd (<-irrefl (≤-<-trans (y_nonneg (4 * c + k) (face< k h) (in_c k h)) l))
 
-    module _ (k : ℕ) (k< : k < 4) (zero-k : y (4 * c + k) ≡ pos 0) where
+    module _ (k : ℕ) (k< : k < 4) (zero_k : y (4 * c + k) ≡ pos 0) where
       abbrev f : ℕ
       f = 4 * c + k
 
       back : q f <ℤ pos 0
-      back = y_zero f (in_c k k<) zero-k
+      back = y_zero f (in_c k k<) zero_k
 
       others : (j : ℕ) → j < 4 → j ≢ k → pos 0 <ℤ y (4 * c + j)
       others j hj d = go (each j hj)
         where
           go : (y (4 * c + j) ≡ pos 0) ⊎ (pos 0 <ℤ y (4 * c + j)) → pos 0 <ℤ y (4 * c + j)
-          go (inl e) = absurd (y_alone c j k c< hj k< d (λ z. <-irrefl (subst (λ u. u <ℤ pos 0) z back)) e zero-k)
+          go (inl e) = absurd (y_alone c j k c< hj k< d (λ z. <-irrefl (subst (λ u. u <ℤ pos 0) z back)) e zero_k)
           go (inr l) = l
 
       module _ (real : across t f ≢ none) where
@@ -222,7 +222,7 @@ module _ {X Y Z pc cc np n : ℕ} {t : Tables} (M : IsMesh X Y Z pc cc np n t) (
         -- the far side of the face itself
         own : pos 0 <ℤ next (mate t f)
         own =
-            subst (λ z. pos 0 <ℤ z) (sym (next_zero (mate t f) (y_field.mirror f (face k k<) real ∙ ap neg_ℤ zero-k) ∙ Fq.mirror f (face k k<) real))
+            subst (λ z. pos 0 <ℤ z) (sym (next_zero (mate t f) (y_field.mirror f (face k k<) real ∙ ap neg_ℤ zero_k) ∙ Fq.mirror f (face k k<) real))
             (neg_pos back)
 
         -- the other faces of the far cell: only corners of the shared face have weight
@@ -256,7 +256,7 @@ module _ {X Y Z pc cc np n : ℕ} {t : Tables} (M : IsMesh X Y Z pc cc np n t) (
             term : (i : ℕ) → i < 4 → Dec (i ≡ k) → pos 0 ≤ℤ (y (4 * c + i) *ℤ side t (corner_at t c i) (4 * across t f + l))
             term i hi (yes e) =
                 ≡→≤ (sym (ap (λ x. y (4 * c + x) *ℤ side t (corner_at t c i) (4 * across t f + l)) e ∙
-                (ap (λ z. z *ℤ side t (corner_at t c i) (4 * across t f + l)) zero-k ∙ zero-*ℤ (side t (corner_at t c i) (4 * across t f + l)))))
+                (ap (λ z. z *ℤ side t (corner_at t c i) (4 * across t f + l)) zero_k ∙ zero-*ℤ (side t (corner_at t c i) (4 * across t f + l)))))
             term i hi (no e) =
                 *-nonneg (<→≤ (others i hi e))
                 (subst (λ z. pos 0 ≤ℤ z) (sym (side_at_lem t (corner_at t c i) (across t f) l hl))

@@ -14,7 +14,7 @@ use Rattle.insertion.specs.Insertion.{insert_call}
 use Rattle.insertion.specs.List.{list_call}
 use Rattle.insertion.specs.Look.{look_call, marked_call}
 use Rattle.covering.specs.Place.{Place, InBoxAt, holds_at, inside_at}
-use Rattle.covering.specs.Clauses.{Clause, sizes, positive-volumes, faces-on-walls, neighbour-numbers, same_points, far_side, volumes-add-up, is_mesh_but}
+use Rattle.covering.specs.Clauses.{Clause, sizes, positive_volumes, faces_on_walls, neighbour_numbers, same_points, far_side, volumes_add_up, is_mesh_but}
 
 -- 'every position of the box, at whole steps and at any fraction of one, is held by at least one cell, and lies strictly inside at most one'; of n
 -- entries in use, of which a freed one holds nothing and has nothing strictly inside
@@ -55,9 +55,9 @@ pub record Needed (out : Clause) : Type 0 where
 -- seven of the fourteen clauses
 pub record NeededClauses : Type 0 where
   pub capacities_sides_counts : Needed sizes
-  pub neighbour_in_range : Needed neighbour-numbers
-  pub volume_above_zero : Needed positive-volumes
-  pub unshared_on_wall : Needed faces-on-walls
+  pub neighbour_in_range : Needed neighbour_numbers
+  pub volume_above_zero : Needed positive_volumes
+  pub unshared_on_wall : Needed faces_on_walls
   pub shared_points : Needed same_points
   pub on_far_side : Needed far_side
-  pub sum_of_volumes : Needed volumes-add-up
+  pub sum_of_volumes : Needed volumes_add_up

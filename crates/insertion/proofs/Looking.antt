@@ -51,11 +51,11 @@ begins_at expected bytes i h k = rw (drop-cons expected i 0 h, drop-cons bytes i
 
 -- ---- marks of n entries
 
-pub marks_length : (n : ℕ) (isMarked : ℕ → Bool) → length (marks_of n isMarked) ≡ n
-marks_length n isMarked = tabulate_length n _
+pub marks_length : (n : ℕ) (is_marked : ℕ → Bool) → length (marks_of n is_marked) ≡ n
+marks_length n is_marked = tabulate_length n _
 
-pub mark_at : (n : ℕ) (isMarked : ℕ → Bool) (c : ℕ) → c < n → get_or (marks_of n isMarked) c 0 ≡ cond (isMarked c) 1 0
-mark_at n isMarked c h = tabulate_at n _ c 0 h
+pub mark_at : (n : ℕ) (is_marked : ℕ → Bool) (c : ℕ) → c < n → get_or (marks_of n is_marked) c 0 ≡ cond (is_marked c) 1 0
+mark_at n is_marked c h = tabulate_at n _ c 0 h
 
 -- with the states st
 module _ (n : ℕ) (st : List ℕ) where

@@ -28,7 +28,7 @@ unfoldable pub cells_made : Mesh → Tables → Position → Answers → ℕ
 cells_made m t p a = made_count t m.used p (last_cavity m t p a)
 
 -- refusals 4 to 8 of a node, checked in number order; 0 where there is none. After tests 1 to 3, 7 never occurs:
--- `never-seven` (covering/proofs/NeverSeven).
+-- `never_seven` (covering/proofs/NeverSeven).
 unfoldable pub node_refusal : Mesh → Tables → ℕ → Position → Answers → ℕ
 node_refusal m t w p a =
     cond (not (in_box m.x m.y m.z p)) 4

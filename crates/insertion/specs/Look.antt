@@ -14,7 +14,7 @@ use Rattle.insertion.specs.Insertion.{Result, last_cavity, first_of, insert_refu
 
 -- a byte for each of n entries
 abbrev pub marks_of : ℕ → (ℕ → Bool) → List ℕ
-marks_of n isMarked = tabulate n (λ c. cond (isMarked c) 1 0)
+marks_of n is_marked = tabulate n (λ c. cond (is_marked c) 1 0)
 
 -- 'marks each cell of the corrected spot with byte 1, all other cells with 0'; 'marks go by entry up to the used length', and a freed entry's
 -- 'mark is 0' (document 02 §11)

@@ -47,13 +47,13 @@ beyond_corner s p j h each =
 -- ---- the corners of s lie on the sphere of r, but for the one at place k
 
 module _ (s r : ℕ → Position) (k : ℕ) (k< : k < 4) (shared : (i : ℕ) → i < 4 → i ≢ k → power r (s i) ≡ pos 0)
-    (above-s : pos 0 <ℤ volume s) (above-r : pos 0 <ℤ volume r) where
+    (above_s : pos 0 <ℤ volume s) (above_r : pos 0 <ℤ volume r) where
   -- what is not on the side of s and inside its sphere is inside that of r
   pub crosses_in : power r (s k) ≤ℤ pos 0 → (q : Position) → volume (replaced s k q) ≤ℤ pos 0 → pos 0 <ℤ power s q → pos 0 <ℤ power r q
   crosses_in e q b h =
-      cancel_pos {a = volume s} (power r q) above-s
+      cancel_pos {a = volume s} (power r q) above_s
       (subst (λ z. pos 0 <ℤ z) (ring (var 1 ⊕ var 0) (var 0 ⊕ var 1) tt ((volume (replaced s k q) *ℤ power r (s k)) ∷ (volume r *ℤ power s q) ∷ []) ∙ sym (transfer_face s r k k< shared q))
-      (+-pos (*-pos above-r h) (*-nonpos-nonpos b e)))
+      (+-pos (*-pos above_r h) (*-nonpos-nonpos b e)))
 
   -- what is on the side of s and not inside its sphere is not inside that of r
   pub stays_out : power r (s k) ≤ℤ pos 0 → (q : Position) → pos 0 ≤ℤ volume (replaced s k q) → power s q ≤ℤ pos 0 → power r q ≤ℤ pos 0
@@ -64,7 +64,7 @@ module _ (s r : ℕ → Position) (k : ℕ) (k< : k < 4) (shared : (i : ℕ) →
 
       by : (power r q ≤ℤ pos 0) ⊎ (pos 0 <ℤ power r q) → power r q ≤ℤ pos 0
       by (inl l) = l
-      by (inr l) = absurd (never (transfer_face s r k k< shared q) (*-pos above-s l) (+-nonpos (*-nonpos-r b e) (*-nonpos-r (<→≤ above-r) h)))
+      by (inr l) = absurd (never (transfer_face s r k k< shared q) (*-pos above_s l) (+-nonpos (*-nonpos-r b e) (*-nonpos-r (<→≤ above_r) h)))
 
   -- ---- p is a corner of r: whether the last corner of s is inside the sphere of r
 
@@ -78,7 +78,7 @@ module _ (s r : ℕ → Position) (k : ℕ) (k< : k < 4) (shared : (i : ℕ) →
       where
         by : (power r (s k) ≤ℤ pos 0) ⊎ (pos 0 <ℤ power r (s k)) → power r (s k) ≤ℤ pos 0
         by (inl l) = l
-        by (inr l) = absurd (<-irrefl (subst (λ z. pos 0 <ℤ z) (sym law) (+-pos (*-pos a l) (*-nonneg (<→≤ above-r) h))))
+        by (inr l) = absurd (<-irrefl (subst (λ z. pos 0 <ℤ z) (sym law) (+-pos (*-pos a l) (*-nonneg (<→≤ above_r) h))))
 
     -- p beyond s and not inside its sphere
     pub far_out : volume (replaced s k p) <ℤ pos 0 → power s p ≤ℤ pos 0 → power r (s k) ≤ℤ pos 0
@@ -86,4 +86,4 @@ module _ (s r : ℕ → Position) (k : ℕ) (k< : k < 4) (shared : (i : ℕ) →
       where
         by : (power r (s k) ≤ℤ pos 0) ⊎ (pos 0 <ℤ power r (s k)) → power r (s k) ≤ℤ pos 0
         by (inl l) = l
-        by (inr l) = absurd (<-irrefl (subst (λ z. z <ℤ pos 0) (sym law) (+-neg (*-neg-l a l) (*-nonpos-r (<→≤ above-r) h))))
+        by (inr l) = absurd (<-irrefl (subst (λ z. z <ℤ pos 0) (sym law) (+-neg (*-neg-l a l) (*-nonpos-r (<→≤ above_r) h))))

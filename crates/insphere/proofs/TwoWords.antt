@@ -151,7 +151,7 @@ high_tells w l d = bool_ext (lt_z (pos 0) w.high) (lt_z (pos 0) (value_of w)) (�
 
 pub low_tells : (w : Words) → w.high ≡ pos 0 → ltb 0 w.low ≡ lt_z (pos 0) (value_of w)
 unfolding value_of
-low_tells w e = ap (λ l. ltb 0 l) (sym (zero-add w.low)) ∙ sym (ap (λ h. lt_z (pos 0) (h *ℤ pos unit +ℤ pos w.low)) e)
+low_tells w e = ap (λ l. ltb 0 l) (sym (zero_add w.low)) ∙ sym (ap (λ h. lt_z (pos 0) (h *ℤ pos unit +ℤ pos w.low)) e)
   where
-    zero-add : (l : ℕ) → 0 + l ≡ l
-    zero-add l = omega arith
+    zero_add : (l : ℕ) → 0 + l ≡ l
+    zero_add l = omega arith

@@ -62,10 +62,10 @@ module _ {R : ℕ → ℕ → Type 0} {np n n₁ : ℕ} {t t₁ : Tables} (T : A
 
 -- ---- the marks that a look leaves
 
-module _ (n : ℕ) (isMarked : ℕ → Bool) (marks : List ℕ) where
-  pub left_long : n ≤ length (over (marks_of n isMarked) marks)
-  left_long = omega (arith, marks_length n isMarked, length-append (marks_of n isMarked) (drop (length (marks_of n isMarked)) marks))
+module _ (n : ℕ) (is_marked : ℕ → Bool) (marks : List ℕ) where
+  pub left_long : n ≤ length (over (marks_of n is_marked) marks)
+  left_long = omega (arith, marks_length n is_marked, length-append (marks_of n is_marked) (drop (length (marks_of n is_marked)) marks))
 
-  pub left_at : (c : ℕ) → c < n → get_or (over (marks_of n isMarked) marks) c 0 ≡ cond (isMarked c) 1 0
+  pub left_at : (c : ℕ) → c < n → get_or (over (marks_of n is_marked) marks) c 0 ≡ cond (is_marked c) 1 0
   left_at c h =
-      get_or-append (marks_of n isMarked) (drop (length (marks_of n isMarked)) marks) 0 c (omega (arith, h, marks_length n isMarked)) ∙ mark_at n isMarked c h
+      get_or-append (marks_of n is_marked) (drop (length (marks_of n is_marked)) marks) 0 c (omega (arith, h, marks_length n is_marked)) ∙ mark_at n is_marked c h

@@ -4,8 +4,8 @@
 
 ghost use Rattle.std.specs.Prelude.{◌≤◌, length};
 ghost use Rattle.mesh.specs.Tables.{tables};
-ghost use Rattle.nodefile.specs.Read.{nodes as fileNodes, read_answer};
-ghost use Rattle.lines.specs.Listing.{read_text, listing as listingOf};
+ghost use Rattle.nodefile.specs.Read.{nodes as file_nodes, read_answer};
+ghost use Rattle.lines.specs.Listing.{read_text, listing as listing_of};
 ghost use Rattle.lines.specs.Inner.{Wrote, longest};
 
 use lines_box::list_nodes;
@@ -24,7 +24,7 @@ fn list_file(
     out: &mut [u8],
 ) -> usize
     requires { longest ≤ length out.old }
-    ensures { Wrote (read_text (read_answer file.now (length nodes.old)) (tables points.old corners.old neighbours.old) (length work.old) (fileNodes file.now))
+    ensures { Wrote (read_text (read_answer file.now (length nodes.old)) (tables points.old corners.old neighbours.old) (length work.old) (file_nodes file.now))
         out.old 0 result out.new }
 {
     let answer = read_nodes(file, nodes);
@@ -50,7 +50,7 @@ fn list_file(
 // The listing of a file, with room for 1,024 points and 4,096 cells.
 pub fn list_input(file: &[u8], out: &mut [u8]) -> usize
     requires { longest ≤ length out.old }
-    ensures { Wrote (listingOf file.now) out.old 0 result out.new }
+    ensures { Wrote (listing_of file.now) out.old 0 result out.new }
 {
     if 65536 < file.len() {
         return write_refused(9, out);

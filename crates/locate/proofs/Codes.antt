@@ -25,7 +25,7 @@ use Rattle.geometry.specs.Inner.{volumes_at}
 use Rattle.geometry.proofs.Algebra.{volume_cong, volume_split}
 use Rattle.geometry.proofs.ReadBack.{held_volume}
 use Rattle.mesh.specs.Tables.{Tables, none, point_in, corner, corner_at, side, freed, live, IsCell, tables}
-use Rattle.mesh.specs.Mesh.{Wall, low_x, low-y, low-z, along}
+use Rattle.mesh.specs.Mesh.{Wall, low_x, low_y, low_z, along}
 use Rattle.mesh.specs.Inner.{four_at, positions_of, Cornered, volume_of_four, Solid}
 use Rattle.mesh.proofs.Corners.{placed_cornered}
 use Rattle.mesh.proofs.FaceNumbers.{face_cell, face_opposite}
@@ -210,10 +210,10 @@ some_not s q h held =
     below_six (λ j. ((k : ℕ) → k < 4 → beyond j (s k) q ≡ true) → ⊥)
     (λ e. no_less low_x (λ k l. ltb-true _ _ (e k l)))
     (λ e. no_more low_x (λ k l. ltb-true _ _ (e k l)))
-    (λ e. no_less low-y (λ k l. ltb-true _ _ (e k l)))
-    (λ e. no_more low-y (λ k l. ltb-true _ _ (e k l)))
-    (λ e. no_less low-z (λ k l. ltb-true _ _ (e k l)))
-    (λ e. no_more low-z (λ k l. ltb-true _ _ (e k l)))
+    (λ e. no_less low_y (λ k l. ltb-true _ _ (e k l)))
+    (λ e. no_more low_y (λ k l. ltb-true _ _ (e k l)))
+    (λ e. no_less low_z (λ k l. ltb-true _ _ (e k l)))
+    (λ e. no_more low_z (λ k l. ltb-true _ _ (e k l)))
   where
     no_less : (w : Wall) → ((k : ℕ) → k < 4 → along w (s k) < along w q) → ⊥
     no_less w e = let m = most w s q h held (along w q - 1) (λ k l. omega (arith, e k l)) in absurd (omega (arith, m, e 0 (omega arith)))

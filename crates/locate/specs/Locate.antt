@@ -24,12 +24,12 @@ unfoldable pub earlier_holder : Tables → Position → ℕ → ℕ → Bool
 earlier_holder t p c d = holds t p d && lex_before (sorted_corners t d) (sorted_corners t c)
 
 -- document 02 §3: of n entries, 'among the cells that hold the position, the one whose four corner numbers, sorted upward, come first in
--- order'; n where none holds it. In a mesh just one comes first: `one_Cell` (located/proofs/Theorem). Of equal corners, which a mesh does not
+-- order'; n where none holds it. In a mesh just one comes first: `one_cell` (located/proofs/Theorem). Of equal corners, which a mesh does not
 -- have, the lowest number is taken.
 unfoldable pub first_holder : Tables → ℕ → Position → ℕ
 first_holder t n p = first_below n (λ c. holds t p c && not (any_below n (earlier_holder t p c)))
 
--- refusals 1 2 3 4 7. 7 never occurs: `never-seven` (covering/proofs/NeverSeven).
+-- refusals 1 2 3 4 7. 7 never occurs: `never_seven` (covering/proofs/NeverSeven).
 unfoldable pub locate_refusal : Mesh → Tables → ℕ → Position → ℕ
 locate_refusal m t w p =
     cond (not (eqb (mesh_refusal m t w false) 0)) (mesh_refusal m t w false)

@@ -96,7 +96,7 @@ module _ {X Y Z pc cc pc' cc' np n n' : ℕ} {t t' : Tables} (M : IsMesh X Y Z p
         go i h (yes q) = omega (arith, M.corner< d i f< h, made_apex F f f< v i h q)
         go i h (no q) = omega (arith, made_other F f f< v i h q)
 
-    module _ (q : Position) (inside : InBox X Y Z q) (c : ℕ) (c< : IsCell t n c) (k : kept? s c ≡ true) (held-c : holds t q c ≡ true) (held-e : holds t' q e ≡ true) where
+    module _ (q : Position) (inside : InBox X Y Z q) (c : ℕ) (c< : IsCell t n c) (k : kept? s c ≡ true) (held_c : holds t q c ≡ true) (held_e : holds t' q e ≡ true) where
       -- q has no part of the new point
       on_face : form t' (whole q) (4 * e + opposite f) ≡ pos 0
       on_face =
@@ -104,7 +104,7 @@ module _ {X Y Z pc cc pc' cc' np n n' : ℕ} {t t' : Tables} (M : IsMesh X Y Z p
           (*ℤ_comm (cell_volume t' c) (form t' (whole q) (4 * e + opposite f)) ∙
           (ap (λ z. z *ℤ cell_volume t' c) (sym has_new) ∙
           (same_value M' R' (whole q) (whole_in_box inside) (only_at np) e c made_cell (kept_cell c c< k)
-          (by_forms t' q e made_cell.lives held-e) (by_forms t' q c (kept_cell c c< k).lives (kept_holds c c< k q ∙ held-c)) ∙
+          (by_forms t' q e made_cell.lives held_e) (by_forms t' q c (kept_cell c c< k).lives (kept_holds c c< k q ∙ held_c)) ∙
           (ap (λ z. z *ℤ cell_volume t' e) has_none ∙ zero-*ℤ (cell_volume t' e)))))
         where
           has_new : form_weighted t' (whole q) (only_at np) e ≡ form t' (whole q) (4 * e + opposite f)
@@ -118,7 +118,7 @@ module _ {X Y Z pc cc pc' cc' np n n' : ℕ} {t t' : Tables} (M : IsMesh X Y Z p
       -- so the old cell of the face held it
       old_holds_lem : holds t q d ≡ true
       old_holds_lem = holds_yes t q d f<.lives (unfold Holds in λ l hl.
-          weighted_nonneg (corner_at t' e) (corner_at t d) q l hl (unfold cell_volume in M'.positive e made_cell) (unfold Holds in holds_of t' q e held-e)
+          weighted_nonneg (corner_at t' e) (corner_at t d) q l hl (unfold cell_volume in M'.positive e made_cell) (unfold Holds in holds_of t' q e held_e)
           (λ i h. go l hl i h (ℕ_discrete i (opposite f))))
         where
           go : (l : ℕ) → l < 4 → (i : ℕ) → i < 4 → Dec (i ≡ opposite f) → (volume (replaced (corner_at t' e) i q) ≡ pos 0) ⊎ (pos 0 ≤ℤ volume (replaced (corner_at t d) l (corner_at t' e i)))

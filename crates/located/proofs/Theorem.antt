@@ -155,13 +155,13 @@ same_answer m m' t t' w w' p z z' e same = go (split (in_box m.x m.y m.z p))
 pub same_located : (m m' : Mesh) (t t' : Tables) (w w' : ℕ) → mesh_refusal m t w false ≡ 0 → mesh_refusal m' t' w' false ≡ 0 → SameCells m t m' t' →
     (p : Position) → SameAnswer t t' (locate_call m t w p) (locate_call m' t' w' p)
 same_located m m' t t' w w' z z' S p =
-    same_answer m m' t t' w w' p z z' (ap (λ q. in_box q.x q.y q.z p) corner-7)
-    (λ b. same_holder (is_valid m t w z).mesh (room_of t w) (is_valid m' t' w' z').mesh (room_of t' w') S.points S.there S.back p (box_in b) (box_in (sym (ap (λ q. in_box q.x q.y q.z p) corner-7) ∙ b)))
+    same_answer m m' t t' w w' p z z' (ap (λ q. in_box q.x q.y q.z p) corner_7)
+    (λ b. same_holder (is_valid m t w z).mesh (room_of t w) (is_valid m' t' w' z').mesh (room_of t' w') S.points S.there S.back p (box_in b) (box_in (sym (ap (λ q. in_box q.x q.y q.z p) corner_7) ∙ b)))
   where
     far : (m : Mesh) → Position
     far m = record { x = m.x; y = m.y; z = m.z }
 
-    corner-7 : far m ≡ far m'
-    corner-7 =
+    corner_7 : far m ≡ far m'
+    corner_7 =
         sym ((is_valid m t w z).mesh.box_corners 7 (omega arith)) ∙
         (sym (S.points 7 (omega (arith, (is_valid m t w z).mesh.points≥))) ∙ (is_valid m' t' w' z').mesh.box_corners 7 (omega arith))

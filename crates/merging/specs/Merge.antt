@@ -60,7 +60,7 @@ merged_file first second = file_of_positions (header first) (left first second)
 
 -- ---- refusals
 
--- '9 and 2' of a file: with room for 1,016 nodes the reader never answers 10 (`never-ten`)
+-- '9 and 2' of a file: with room for 1,016 nodes the reader never answers 10 (`never_ten`)
 unfoldable pub file_refusal : List ℕ → ℕ
 file_refusal file = read_refusal file 3048
 

@@ -19,7 +19,7 @@ use Rattle.arith.proofs.Sums.{sum_cong}
 use Rattle.arith.proofs.Tables.{all_at}
 use Rattle.geometry.specs.Volume.{InBox, volume6, volume}
 use Rattle.mesh.specs.Tables.{Tables, none, cell_of, opposite, point_in, point, corner, across, corner_at, cell_volume, live}
-use Rattle.mesh.specs.Mesh.{LegalSide, bit, at_bit, box_corner, Wall, low_x, low-y, low-z, high-x, high-y, high-z, along, level, OnWall, IsMesh}
+use Rattle.mesh.specs.Mesh.{LegalSide, bit, at_bit, box_corner, Wall, low_x, low_y, low_z, high_x, high_y, high_z, along, level, OnWall, IsMesh}
 use Rattle.mesh.specs.Check.{used_ok, face_ok}
 use Rattle.mesh.specs.Start.{start_points, start_corners, start_neighbours, started}
 use Rattle.mesh.specs.Inner.{four_at, cell_at}
@@ -39,18 +39,18 @@ cellₑ a b c d = det4_of Expr ◌⊕◌ ◌⊖◌ ◌⊗◌ (cornerₑ a) (corn
 -- the wall that a box corner lies on, by its bits
 abbrev on_wall : Wall → ℕ → Bool
 on_wall low_x k = eqb (k % 2) 0
-on_wall low-y k = eqb (k / 2 % 2) 0
-on_wall low-z k = eqb (k / 2 / 2 % 2) 0
-on_wall high-x k = eqb (k % 2) 1
-on_wall high-y k = eqb (k / 2 % 2) 1
-on_wall high-z k = eqb (k / 2 / 2 % 2) 1
+on_wall low_y k = eqb (k / 2 % 2) 0
+on_wall low_z k = eqb (k / 2 / 2 % 2) 0
+on_wall high_x k = eqb (k % 2) 1
+on_wall high_y k = eqb (k / 2 % 2) 1
+on_wall high_z k = eqb (k / 2 / 2 % 2) 1
 
 -- the wall of face f of the started box, where it has one
 abbrev wall_of : ℕ → Wall
 wall_of f =
     cond (eqb (f % 4) 0)
-    (cond (eqb f 0 || eqb f 20) high-x (cond (eqb f 4 || eqb f 8) high-y high-z))
-    (cond (eqb f 3 || eqb f 7) low-z (cond (eqb f 11 || eqb f 15) low_x low-y))
+    (cond (eqb f 0 || eqb f 20) high_x (cond (eqb f 4 || eqb f 8) high_y high_z))
+    (cond (eqb f 3 || eqb f 7) low_z (cond (eqb f 11 || eqb f 15) low_x low_y))
 
 low : (b s : ℕ) → eqb b 0 ≡ true → cond (eqb b 1) s 0 ≡ 0
 low b s e = ap (λ b. cond (eqb b 1) s 0) (eqb-true b 0 e)
@@ -118,11 +118,11 @@ module _ (X Y Z : ℕ) (t : Tables) where
 
   on_wall_lem : (w : Wall) (k : ℕ) → on_wall w k ≡ true → along w (box_corner X Y Z k) ≡ level X Y Z w
   on_wall_lem low_x k e = low (k % 2) X e
-  on_wall_lem low-y k e = low (k / 2 % 2) Y e
-  on_wall_lem low-z k e = low (k / 2 / 2 % 2) Z e
-  on_wall_lem high-x k e = rw e
-  on_wall_lem high-y k e = rw e
-  on_wall_lem high-z k e = rw e
+  on_wall_lem low_y k e = low (k / 2 % 2) Y e
+  on_wall_lem low_z k e = low (k / 2 / 2 % 2) Z e
+  on_wall_lem high_x k e = rw e
+  on_wall_lem high_y k e = rw e
+  on_wall_lem high_z k e = rw e
 
   start_wall : (f : ℕ) → f < 24 → across t₀ f ≡ none → OnWall X Y Z t₀ f
   unfolding corner_at

@@ -20,7 +20,7 @@ use Rattle.arith.proofs.Determinant.{odd}
 use Rattle.geometry.proofs.Algebra.{volume_cong}
 use Rattle.mesh.specs.declared.Cell.{Cell}
 use Rattle.mesh.specs.Tables.{Tables, point_in, none, cell_of, opposite, point, corner, across, corner_at, cell_volume, live, IsCell, side, same_face, place_of, tables}
-use Rattle.mesh.specs.Mesh.{OnFace, Wall, low_x, low-y, low-z, high-x, high-y, high-z, along, level}
+use Rattle.mesh.specs.Mesh.{OnFace, Wall, low_x, low_y, low_z, high_x, high_y, high_z, along, level}
 use Rattle.mesh.specs.Check.{mated_ok, wall_ok, some_wall, face_ok}
 use Rattle.mesh.specs.Inner.{volume_of_four, four_at, cell_at}
 use Rattle.mesh.specs.Inner.Faces.{place_in, odd_order, faces_back, first, second, third, all_on, on_one_wall, face_test, face_numbers}
@@ -459,7 +459,7 @@ walls_are : (X Y Z : ℕ) (t : Tables) (c i : ℕ) → i < 4 →
     on_one_wall X Y Z (point t (corner t c (first i))) (point t (corner t c (second i))) (point t (corner t c (third i))) ≡ some_wall X Y Z t (4 * c + i)
 unfolding on_one_wall some_wall corner_at
 walls_are X Y Z t c i hi =
-    rw (each low_x, each low-y, each low-z, each high-x, each high-y, each high-z)
+    rw (each low_x, each low_y, each low_z, each high_x, each high_y, each high_z)
   where
     each : (w : Wall) → wall_ok X Y Z t (4 * c + i) w ≡ all_on X Y Z w (point t (corner t c (first i))) (point t (corner t c (second i))) (point t (corner t c (third i)))
     each w = wall_at_lem X Y Z t c i hi w ∙ wall_three X Y Z t c i hi w

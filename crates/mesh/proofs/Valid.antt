@@ -93,7 +93,7 @@ unfolding chain_of chain_from live
 start_valid X Y Z t w M =
     record {
       mesh = M;
-      counted = omega (arith, cells_freed (started X Y Z t) 6, none-freed);
+      counted = omega (arith, cells_freed (started X Y Z t) 6, none_freed);
       chained = record {
         path = end;
         spare = record { below = λ k l. absurd (omega arith); dead = λ k l. absurd (omega arith); once = λ j k l. absurd (omega arith) };
@@ -102,5 +102,5 @@ start_valid X Y Z t w M =
       };
     }
   where
-    none-freed : count_below 6 (freed (started X Y Z t)) ≡ 0
-    none-freed = count_none 6 (freed (started X Y Z t)) (λ c l. not-true (freed (started X Y Z t) c) (start_live X Y Z t c l))
+    none_freed : count_below 6 (freed (started X Y Z t)) ≡ 0
+    none_freed = count_none 6 (freed (started X Y Z t)) (λ c l. not-true (freed (started X Y Z t) c) (start_live X Y Z t c l))

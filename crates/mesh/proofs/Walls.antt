@@ -12,18 +12,18 @@ use Rattle.geometry.specs.declared.Position.{Position}
 use Rattle.geometry.specs.Volume.{volume, replaced, InBox}
 use Rattle.geometry.proofs.Algebra.{volume_split}
 use Rattle.mesh.specs.Tables.{Tables, none, cell_of, opposite, corner, across, corner_at, cell_volume, side, IsFace}
-use Rattle.mesh.specs.Mesh.{Wall, low_x, low-y, low-z, high-x, high-y, high-z, along, level, OnWall, IsMesh}
+use Rattle.mesh.specs.Mesh.{Wall, low_x, low_y, low_z, high_x, high_y, high_z, along, level, OnWall, IsMesh}
 use Rattle.mesh.proofs.FaceNumbers.{opposite<}
 use Rattle.mesh.proofs.Held.{cramer}
 
 -- how far a point lies from a wall, inwards
 depth : ℕ → ℕ → ℕ → Wall → Position → ℤ
 depth X Y Z low_x q = pos q.x
-depth X Y Z low-y q = pos q.y
-depth X Y Z low-z q = pos q.z
-depth X Y Z high-x q = pos X -ℤ pos q.x
-depth X Y Z high-y q = pos Y -ℤ pos q.y
-depth X Y Z high-z q = pos Z -ℤ pos q.z
+depth X Y Z low_y q = pos q.y
+depth X Y Z low_z q = pos q.z
+depth X Y Z high_x q = pos X -ℤ pos q.x
+depth X Y Z high_y q = pos Y -ℤ pos q.y
+depth X Y Z high_z q = pos Z -ℤ pos q.z
 
 -- a distance from the far end is interpolated too
 from_level : (a : Position → ℕ) (L : ℕ) (s : ℕ → Position) (q : Position) → sum 4 (λ k. volume (replaced s k q) *ℤ pos (a (s k))) ≡ volume s *ℤ pos (a q) →
@@ -38,46 +38,46 @@ module _ (X Y Z : ℕ) where
   depth_between : (w : Wall) (s : ℕ → Position) (q : Position) → sum 4 (λ k. volume (replaced s k q) *ℤ depth X Y Z w (s k)) ≡ volume s *ℤ depth X Y Z w q
   unfolding depth
   depth_between low_x s q = cramer low_x s q
-  depth_between low-y s q = cramer low-y s q
-  depth_between low-z s q = cramer low-z s q
-  depth_between high-x s q = from_level (λ r. r.x) X s q (cramer low_x s q)
-  depth_between high-y s q = from_level (λ r. r.y) Y s q (cramer low-y s q)
-  depth_between high-z s q = from_level (λ r. r.z) Z s q (cramer low-z s q)
+  depth_between low_y s q = cramer low_y s q
+  depth_between low_z s q = cramer low_z s q
+  depth_between high_x s q = from_level (λ r. r.x) X s q (cramer low_x s q)
+  depth_between high_y s q = from_level (λ r. r.y) Y s q (cramer low_y s q)
+  depth_between high_z s q = from_level (λ r. r.z) Z s q (cramer low_z s q)
 
   depth_wall : (w : Wall) (q : Position) → along w q ≡ level X Y Z w → depth X Y Z w q ≡ pos 0
   unfolding depth
   depth_wall low_x q e = ap pos e
-  depth_wall low-y q e = ap pos e
-  depth_wall low-z q e = ap pos e
-  depth_wall high-x q e = ap (λ m. pos X -ℤ pos m) e ∙ sub_self (pos X)
-  depth_wall high-y q e = ap (λ m. pos Y -ℤ pos m) e ∙ sub_self (pos Y)
-  depth_wall high-z q e = ap (λ m. pos Z -ℤ pos m) e ∙ sub_self (pos Z)
+  depth_wall low_y q e = ap pos e
+  depth_wall low_z q e = ap pos e
+  depth_wall high_x q e = ap (λ m. pos X -ℤ pos m) e ∙ sub_self (pos X)
+  depth_wall high_y q e = ap (λ m. pos Y -ℤ pos m) e ∙ sub_self (pos Y)
+  depth_wall high_z q e = ap (λ m. pos Z -ℤ pos m) e ∙ sub_self (pos Z)
 
   depth_in : (w : Wall) (q : Position) → InBox X Y Z q → pos 0 ≤ℤ depth X Y Z w q
   unfolding depth
   depth_in low_x q b = omega arithℤ
-  depth_in low-y q b = omega arithℤ
-  depth_in low-z q b = omega arithℤ
-  depth_in high-x q b = omega (arithℤ, parts_sub (pos X) (pos q.x), b.x≤)
-  depth_in high-y q b = omega (arithℤ, parts_sub (pos Y) (pos q.y), b.y≤)
-  depth_in high-z q b = omega (arithℤ, parts_sub (pos Z) (pos q.z), b.z≤)
+  depth_in low_y q b = omega arithℤ
+  depth_in low_z q b = omega arithℤ
+  depth_in high_x q b = omega (arithℤ, parts_sub (pos X) (pos q.x), b.x≤)
+  depth_in high_y q b = omega (arithℤ, parts_sub (pos Y) (pos q.y), b.y≤)
+  depth_in high_z q b = omega (arithℤ, parts_sub (pos Z) (pos q.z), b.z≤)
 
   deep : Wall → Position
   deep low_x = record { x = 1; y = 1; z = 1 }
-  deep low-y = record { x = 1; y = 1; z = 1 }
-  deep low-z = record { x = 1; y = 1; z = 1 }
-  deep high-x = record { x = 0; y = 0; z = 0 }
-  deep high-y = record { x = 0; y = 0; z = 0 }
-  deep high-z = record { x = 0; y = 0; z = 0 }
+  deep low_y = record { x = 1; y = 1; z = 1 }
+  deep low_z = record { x = 1; y = 1; z = 1 }
+  deep high_x = record { x = 0; y = 0; z = 0 }
+  deep high_y = record { x = 0; y = 0; z = 0 }
+  deep high_z = record { x = 0; y = 0; z = 0 }
 
   depth_deep : 1 ≤ X → 1 ≤ Y → 1 ≤ Z → (w : Wall) → pos 0 <ℤ depth X Y Z w (deep w)
   unfolding depth deep
   depth_deep a b c low_x = omega arithℤ
-  depth_deep a b c low-y = omega arithℤ
-  depth_deep a b c low-z = omega arithℤ
-  depth_deep a b c high-x = omega (arithℤ, parts_sub (pos X) (pos 0))
-  depth_deep a b c high-y = omega (arithℤ, parts_sub (pos Y) (pos 0))
-  depth_deep a b c high-z = omega (arithℤ, parts_sub (pos Z) (pos 0))
+  depth_deep a b c low_y = omega arithℤ
+  depth_deep a b c low_z = omega arithℤ
+  depth_deep a b c high_x = omega (arithℤ, parts_sub (pos X) (pos 0))
+  depth_deep a b c high_y = omega (arithℤ, parts_sub (pos Y) (pos 0))
+  depth_deep a b c high_z = omega (arithℤ, parts_sub (pos Z) (pos 0))
 
 module _ {X Y Z pc cc np n : ℕ} {t : Tables} (M : IsMesh X Y Z pc cc np n t) (f : ℕ) (f< : IsFace t n f) (bare : across t f ≡ none) where
   abbrev o : OnWall X Y Z t f

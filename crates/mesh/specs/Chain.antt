@@ -36,7 +36,7 @@ unfoldable pub chain_from : Tables → ℕ → ℕ → List ℕ
 chain_from t zero h = []
 chain_from t (suc k) h = h ∷ chain_from t k (across t (4 * h))
 
--- The chain from h has just k entries, each freed and among n in use. Where k are freed, each is on it one time (`chain-of` in
+-- The chain from h has just k entries, each freed and among n in use. Where k are freed, each is on it one time (`chain_of_lem` in
 -- proofs/Chains): a chain that comes back to an entry has no end.
 unfoldable pub chain_ok : Tables → ℕ → ℕ → ℕ → Bool
 chain_ok t n zero h = eqb h none

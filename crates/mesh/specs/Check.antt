@@ -1,4 +1,4 @@
--- The mesh check, as a test that computes: true for just the tables that are a mesh (`check-is` in proofs/Checked).
+-- The mesh check, as a test that computes: true for just the tables that are a mesh (`check_is` in proofs/Checked).
 use Rattle.std.specs.Prelude.{ℕ, ◌+◌, ◌*◌, ◌-◌, Bool, ◌&&◌, cond, ◌||◌, leb, ltb, eqb, ℤ, pos}
 use Rattle.std.specs.Int.Signed.{lt_z, le_z}
 use Rattle.arith.specs.Table.{any_below, all_below, count_below, sum}
@@ -6,7 +6,7 @@ use Rattle.geometry.specs.Volume.{max_side, in_box, same_position}
 use Rattle.mesh.specs.declared.Mesh.{Mesh}
 use Rattle.mesh.specs.Tables.{Tables, point_capacity, cell_capacity, none, cell_of, opposite, point, corner, across, corner_at, cell_volume, side, same_face, freed, live}
 use Rattle.mesh.specs.Chain.{chain_ok}
-use Rattle.mesh.specs.Mesh.{box_corner, Wall, low_x, low-y, low-z, high-x, high-y, high-z, along, level}
+use Rattle.mesh.specs.Mesh.{box_corner, Wall, low_x, low_y, low_z, high_x, high_y, high_z, along, level}
 
 abbrev pub same_z : ℤ → ℤ → Bool
 same_z a b = le_z a b && le_z b a
@@ -19,8 +19,8 @@ legal_box X Y Z = legal_side X && (legal_side Y && legal_side Z)
 
 -- capacities, sides and counts
 unfoldable pub counts_ok : ℕ → ℕ → ℕ → ℕ → ℕ → ℕ → ℕ → Bool
-counts_ok X Y Z pointCap cellCap np n =
-    (leb 8 pointCap && leb 6 cellCap) && (legal_box X Y Z && ((leb 8 np && leb np pointCap) && (leb 1 n && leb n cellCap)))
+counts_ok X Y Z point_cap cell_cap np n =
+    (leb 8 point_cap && leb 6 cell_cap) && (legal_box X Y Z && ((leb 8 np && leb np point_cap) && (leb 1 n && leb n cell_cap)))
 
 unfoldable pub box_ok : ℕ → ℕ → ℕ → Tables → Bool
 box_ok X Y Z t = all_below 8 (λ k. same_position (point t k) (box_corner X Y Z k))
@@ -41,8 +41,8 @@ wall_ok X Y Z t f w = all_below 4 (λ k. eqb k (opposite f) || eqb (along w (cor
 
 unfoldable pub some_wall : ℕ → ℕ → ℕ → Tables → ℕ → Bool
 some_wall X Y Z t f =
-    wall_ok X Y Z t f low_x || (wall_ok X Y Z t f low-y || (wall_ok X Y Z t f low-z ||
-    (wall_ok X Y Z t f high-x || (wall_ok X Y Z t f high-y || wall_ok X Y Z t f high-z))))
+    wall_ok X Y Z t f low_x || (wall_ok X Y Z t f low_y || (wall_ok X Y Z t f low_z ||
+    (wall_ok X Y Z t f high_x || (wall_ok X Y Z t f high_y || wall_ok X Y Z t f high_z))))
 
 -- g is the face across f
 unfoldable pub mated_ok : Tables → ℕ → ℕ → Bool
@@ -56,8 +56,8 @@ face_ok X Y Z t n f =
 
 -- cells, in tables with n entries in use; freed entries are no cells
 unfoldable pub mesh_check : ℕ → ℕ → ℕ → ℕ → ℕ → ℕ → ℕ → Tables → Bool
-mesh_check X Y Z pointCap cellCap np n t =
-    counts_ok X Y Z pointCap cellCap np n && (box_ok X Y Z t && (points_ok X Y Z np n t && (all_below n (λ c. freed t c || cell_ok t np c) &&
+mesh_check X Y Z point_cap cell_cap np n t =
+    counts_ok X Y Z point_cap cell_cap np n && (box_ok X Y Z t && (points_ok X Y Z np n t && (all_below n (λ c. freed t c || cell_ok t np c) &&
     (all_below (4 * n) (λ f. freed t (cell_of f) || face_ok X Y Z t n f) && same_z (sum n (cell_volume t)) (pos (6 * X * Y * Z))))))
 
 -- 'the cell count must be the number of entries below the used length that aren't freed'; 'The mesh check covers the chain'

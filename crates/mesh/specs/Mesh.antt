@@ -27,25 +27,25 @@ box_corner X Y Z k = record { x = at_bit k 0 X; y = at_bit k 1 Y; z = at_bit k 2
 
 -- 'wall: one of the six planes where a coordinate is 0 or its side'
 pub data Wall : Type 0 where
-  low_x low-y low-z high-x high-y high-z : Wall
+  low_x low_y low_z high_x high_y high_z : Wall
 
 -- the coordinate that a wall fixes
 abbrev pub along : Wall → Position → ℕ
 along low_x p = p.x
-along low-y p = p.y
-along low-z p = p.z
-along high-x p = p.x
-along high-y p = p.y
-along high-z p = p.z
+along low_y p = p.y
+along low_z p = p.z
+along high_x p = p.x
+along high_y p = p.y
+along high_z p = p.z
 
 -- and its value there
 abbrev pub level : ℕ → ℕ → ℕ → Wall → ℕ
 level X Y Z low_x = 0
-level X Y Z low-y = 0
-level X Y Z low-z = 0
-level X Y Z high-x = X
-level X Y Z high-y = Y
-level X Y Z high-z = Z
+level X Y Z low_y = 0
+level X Y Z low_z = 0
+level X Y Z high_x = X
+level X Y Z high_y = Y
+level X Y Z high_z = Z
 
 -- face f 'has its three corners on one wall'
 pub record OnWall (X Y Z : ℕ) (t : Tables) (f : ℕ) : Type 0 where
@@ -76,17 +76,17 @@ pub record CornerOf (t : Tables) (n v : ℕ) : Type 0 where
   pub is : corner t cell place ≡ v
 
 -- a mesh of np points and n entries in use, in the box X, Y, Z, under the two capacities; what is asked of cells is asked of live entries.
--- (A freed entry has four times one corner, so its volume is 0 and the sum may run over all entries: `freed-volume` in proofs/Live.)
-pub record IsMesh (X Y Z pointCap cellCap np n : ℕ) (t : Tables) : Type 0 where
-  pub point_cap≥ : 8 ≤ pointCap
-  pub cell_cap≥ : 6 ≤ cellCap
+-- (A freed entry has four times one corner, so its volume is 0 and the sum may run over all entries: `freed_volume` in proofs/Live.)
+pub record IsMesh (X Y Z point_cap cell_cap np n : ℕ) (t : Tables) : Type 0 where
+  pub point_cap≥ : 8 ≤ point_cap
+  pub cell_cap≥ : 6 ≤ cell_cap
   pub side_x : LegalSide X
   pub side_y : LegalSide Y
   pub side_z : LegalSide Z
   pub points≥ : 8 ≤ np
-  pub points≤ : np ≤ pointCap
+  pub points≤ : np ≤ point_cap
   pub cells≥ : 1 ≤ n
-  pub cells≤ : n ≤ cellCap
+  pub cells≤ : n ≤ cell_cap
   pub box_corners : (k : ℕ) → k < 8 → point t k ≡ box_corner X Y Z k
   pub inside : (k : ℕ) → k < np → InBox X Y Z (point t k)
   pub used : (k : ℕ) → k < np → CornerOf t n k

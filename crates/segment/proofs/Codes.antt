@@ -309,13 +309,13 @@ module _ (ps cs ns : List ℕ) (np n : ℕ) (S : Solid ps cs np n) (c : ℕ) (c<
   untouched l = rw l
 
   module _ (f : Position → ℕ) (b? : ℕ → Position → Bool) (bits : (p : Position) → Bits (f p) (λ j. b? j p))
-      (none-shared : pos 0 <ℤ cell_volume t c → (j : ℕ) → j < 6 → ((i : ℕ) → i < 4 → b? j (corner_at t c i) ≡ true) → Touched t a b c → ⊥) where
+      (none_shared : pos 0 <ℤ cell_volume t c → (j : ℕ) → j < 6 → ((i : ℕ) → i < 4 → b? j (corner_at t c i) ≡ true) → Touched t a b c → ⊥) where
     coded_out : {codes : List ℕ} → codes ≡ codes_below np (λ v. f (point_in ps v)) → may_hold codes k ≡ false → touches t a b c ≡ false
     coded_out {codes} ec e = go (ruled_out ps cs np n S c c< ek codes ns e)
       where
         go : (live t c ≡ false) ⊎ ((get_or k 0 0 ≢ none) × (shared_bits codes k ≢ 0)) → touches t a b c ≡ false
         go (inl l) = untouched l
-        go (inr (d, x)) = fails (touches t a b c) (λ y. none-shared (positive d) r.bit r.bit< (λ i h. subst (λ p. b? r.bit p ≡ true) (at_corner i h) (r.all i h)) ((touch_is t a b c).0 y))
+        go (inr (d, x)) = fails (touches t a b c) (λ y. none_shared (positive d) r.bit r.bit< (λ i h. subst (λ p. b? r.bit p ≡ true) (at_corner i h) (r.all i h)) ((touch_is t a b c).0 y))
           where
             r : Shared (λ i j. b? j (point_in ps (get_or k i 0)))
             r = shared_bit codes k (λ i j. b? j (point_in ps (get_or k i 0)))

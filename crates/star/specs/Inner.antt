@@ -125,7 +125,7 @@ pub record HasNumber (fa nu sl : List ℕ) (c k : ℕ) : Type 0 where
   pub slot : bit_set (get_or fa c 0) k ≡ true → get_or nu c 0 + count_below k (bit_set (get_or fa c 0)) < length sl
 
 -- the cavity of p is inspected, its cells are ranked, the slots are known, and there is room for the new ones
-pub record Prepared (t : Tables) (np n : ℕ) (p : Position) (ch st fa nu sl : List ℕ) (pointCap cellCap : ℕ) : Type 0 where
+pub record Prepared (t : Tables) (np n : ℕ) (p : Position) (ch st fa nu sl : List ℕ) (point_cap cell_cap : ℕ) : Type 0 where
   pub like : StarShaped t n p (set_of n st)
   pub codes : length fa ≡ 4096
   pub ranks : length nu ≡ 4096
@@ -134,8 +134,8 @@ pub record Prepared (t : Tables) (np n : ℕ) (p : Position) (ch st fa nu sl : L
   pub ranked : Ranked t n p (set_of n st) nu
   pub slotted : Slotted ch n (made_count t n p (set_of n st)) sl
   pub spare : Spare t n ch
-  pub next : np < pointCap
-  pub room : used_after ch n (made_count t n p (set_of n st)) ≤ cellCap
+  pub next : np < point_cap
+  pub room : used_after ch n (made_count t n p (set_of n st)) ≤ cell_cap
 
 -- the same of the mesh `was`, while the star is built
 pub record StarInProgress (n : ℕ) (st fa nu sl cs ns : List ℕ) : Type 0 where

@@ -8,7 +8,7 @@ use Rattle.cavity.specs.Cavity.{in_set, coplanar, visible}
 use Rattle.star.specs.Turn.{out_face, turn}
 
 -- 'turn round that edge through spot cells to the next outer face': from face f, round the edge that it shares with face j of its
--- cell. A turn passes no cell twice (`cell-once` in proofs/Turn), so as many steps as there are cells are enough.
+-- cell. A turn passes no cell twice (`cell_once` in proofs/Turn), so as many steps as there are cells are enough.
 unfoldable pub turn_face : Tables → ℕ → List Bool → ℕ → ℕ → ℕ
 turn_face t n s f j = out_face (turn (corner t) (across t) (mate t) (in_set s) n record { cell = cell_of f; entry = opposite f; exit = j })
 

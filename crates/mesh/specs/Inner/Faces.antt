@@ -1,12 +1,12 @@
 -- The test of a face by corner numbers alone, as the code makes it: true where the face passes the mesh check, if every cell's
--- volume is above 0 (`face-numbers-is` in proofs/Numbers).
+-- volume is above 0 (`face_numbers_is` in proofs/Numbers).
 use Rattle.std.specs.Prelude.{ℕ, ◌+◌, ◌*◌, ◌-◌, ◌%◌, Bool, ◌&&◌, cond, ◌||◌, List, leb, ltb, eqb, get_or}
 use mir.Val.{bool_byte}
 use Rattle.arith.specs.Table.{all_below}
 use Rattle.geometry.specs.declared.Position.{Position}
 use Rattle.mesh.specs.declared.Cell.{Cell}
 use Rattle.mesh.specs.Tables.{Tables, none, point, corner, across, freed}
-use Rattle.mesh.specs.Mesh.{Wall, low_x, low-y, low-z, high-x, high-y, high-z, along, level}
+use Rattle.mesh.specs.Mesh.{Wall, low_x, low_y, low_z, high_x, high_y, high_z, along, level}
 use Rattle.mesh.specs.Inner.{cell_at}
 
 -- the three places of a cell other than i, rising
@@ -46,8 +46,8 @@ all_on X Y Z w p q r = same_level (level X Y Z w) (along w p) (along w q) (along
 
 unfoldable pub on_one_wall : ℕ → ℕ → ℕ → Position → Position → Position → Bool
 on_one_wall X Y Z p q r =
-    all_on X Y Z low_x p q r || (all_on X Y Z low-y p q r || (all_on X Y Z low-z p q r ||
-    (all_on X Y Z high-x p q r || (all_on X Y Z high-y p q r || all_on X Y Z high-z p q r))))
+    all_on X Y Z low_x p q r || (all_on X Y Z low_y p q r || (all_on X Y Z low_z p q r ||
+    (all_on X Y Z high_x p q r || (all_on X Y Z high_y p q r || all_on X Y Z high_z p q r))))
 
 -- face i of cell c, with the corners p, q, r and the neighbour u
 unfoldable pub face_test : ℕ → ℕ → ℕ → Tables → ℕ → ℕ → ℕ → ℕ → ℕ → ℕ → ℕ → Bool
