@@ -13,7 +13,7 @@ use Rattle.arith.specs.Table.{tabulate}
 use Rattle.arith.proofs.Flags.{split, and_left, and_right}
 use Rattle.geometry.specs.declared.Position.{Position}
 use Rattle.mesh.specs.declared.Mesh.{Mesh}
-use Rattle.mesh.specs.declared.Started.TheVariants.{Accepted, Refused}
+use Rattle.mesh.specs.Start.{Accepted, Refused}
 use Rattle.mesh.specs.Tables.{Tables, point_capacity, cell_capacity, none, point, across, IsFace}
 use Rattle.mesh.specs.Mesh.{LegalSide, box_corner, IsMesh, ValidMesh}
 use Rattle.mesh.specs.Check.{legal_side, legal_box}

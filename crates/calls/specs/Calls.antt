@@ -7,10 +7,10 @@ use Rattle.mesh.specs.Tables.{Tables, none, point, across, cell_volume, IsCell, 
 use Rattle.mesh.specs.Mesh.{box_corner, OnWall, Mated, CornerOf, ValidMesh}
 use Rattle.mesh.specs.Start.{started_mesh, start_tables}
 use Rattle.cavity.specs.Answers.{sphere, handed}
-use Rattle.insertion.specs.declared.Inserted.{Inserted}
-use Rattle.insertion.specs.declared.Inserted.TheVariants.{Accepted, Refused}
-use Rattle.insertion.specs.declared.Listed.{Listed}
-use Rattle.insertion.specs.declared.Listed.TheVariants.{Ended, Stopped, Refused as AllRefused}
+use Rattle.insertion.specs.Inserted.{Inserted}
+use Rattle.insertion.specs.Inserted.{Accepted, Refused}
+use Rattle.insertion.specs.Listed.{Listed}
+use Rattle.insertion.specs.Listed.{Ended, Stopped, Refused as AllRefused}
 use Rattle.insertion.specs.Insertion.{Result, insert_call}
 use Rattle.insertion.specs.List.{listed_node, listed_count, list_call}
 use Rattle.insertion.specs.Look.{LookResult, look_call, marked_call}

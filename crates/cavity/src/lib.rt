@@ -5,6 +5,17 @@
 
 use geometry::Position;
 
+// The state of an entry in the cavity: of a cell that holds the node, and of one that joined by its answer. Others have 0.
+pub const BASE: u8 = 2;
+
+pub const GROWN: u8 = 1;
+
+// A face's kind, with the node strictly beyond it; a coplanar face, or one between two cells of the cavity, has 0. The code of a cell adds up
+// the kinds of its faces, each times a power of 2: a hidden face makes it HIDDEN or more.
+pub const VISIBLE: u8 = 1;
+
+pub const HIDDEN: u8 = 16;
+
 // A node to insert: where it lies, how many points and cells the mesh has and how many entries are in use, how long the work area is,
 // and whether answers are handed in.
 #[derive(Clone, Copy)]

@@ -9,7 +9,7 @@ ghost use Rattle.cavity.specs.Answers.{answers_of};
 ghost use Rattle.cavity.specs.Inner.{Answerable};
 ghost use Rattle.cavity.specs.Inner.Growth.{answer_for, with_cell, Empty, Scanned};
 
-use cavity::{Answer, Gathered, Node};
+use cavity::{Answer, BASE, Gathered, Node};
 use insphere::{Sphere, sphere_answer};
 use locate_holding::{cell_holds, may_hold};
 use mesh_tables::{four_at, positions};
@@ -26,52 +26,34 @@ pub fn answer_of(
     requires { Answerable (tables_in points corners neighbours) answers.now node × IsCell (tables_in points corners neighbours) node.used c }
     ensures { result ≡ answer_for (answers_of node.handed answers.now) (tables_before points corners neighbours) node.position c }
 {
-    let handed = node.handed;
-    if handed {
+    if node.handed {
         return Answer {
             yes: answers[c] != 0,
             t: 0.0,
         };
     }
-    let q = node.position;
-    let sphere = sphere_answer(positions(points, four_at(corners, c)), q);
-    match sphere {
-        Sphere::Inside(t) => Answer { yes: true, t: t },
-        Sphere::Outside(t) => Answer { yes: false, t: t },
+    match sphere_answer(positions(points, four_at(corners, c)), node.position) {
+        Sphere::Inside(t) => Answer { yes: true, t },
+        Sphere::Outside(t) => Answer { yes: false, t },
     }
 }
 
 // One cell more, of T x; of cells with the least T the lowest-numbered one counts.
+#[tactic(auto, unfolding(cavity::specs::Inner::Growth::with_cell))]
 fn with_cell(g: Gathered, c: usize, x: f64) -> Gathered
     requires { g.size < 4096 }
     ensures { result ≡ with_cell g c x }
 {
-    let size = g.size;
-    let least = g.least;
-    let at = g.at;
-    let lower = Gathered {
-        size: size + 1,
-        least: x,
-        at: c,
-    };
-    let same = Gathered {
-        size: size + 1,
-        least: least,
-        at: at,
-    };
-    if size == 0 {
-        return lower;
+    let size = g.size + 1;
+    if g.size == 0 || x < g.least || !(g.least < x) && c < g.at {
+        Gathered {
+            size,
+            least: x,
+            at: c,
+        }
+    } else {
+        Gathered { size, ..g }
     }
-    if x < least {
-        return lower;
-    }
-    if least < x {
-        return same;
-    }
-    if c < at {
-        return lower;
-    }
-    same
 }
 
 // Cell c joins: its state is written, and it is listed.
@@ -81,8 +63,7 @@ pub fn join(state: &mut [u8], list: &mut [u16], g: Gathered, c: usize, x: f64, k
         × (list.new ≡ set list.old g.size c) }
 {
     state[c] = kind;
-    let size = g.size;
-    list[size] = c as u16;
+    list[g.size] = c as u16;
     with_cell(g, c, x)
 }
 
@@ -104,12 +85,11 @@ fn try_base(
     ensures { Scanned (answers_of node.handed answers.now) (tables_before points corners neighbours)
         node.position node.used (c + 1) state.new list.new result }
 {
-    let q = node.position;
-    if !cell_holds(points, four_at(corners, c), q) {
+    if !cell_holds(points, four_at(corners, c), node.position) {
         return g;
     }
-    let a = answer_of(points, corners, neighbours, answers, node, c);
-    join(state, list, g, c, a.t, 2)
+    let answer = answer_of(points, corners, neighbours, answers, node, c);
+    join(state, list, g, c, answer.t, BASE)
 }
 
 // Every cell that holds the node. Side codes rule most entries out here in the loop: a call for each would cost more.
@@ -128,20 +108,17 @@ pub fn find_base(
     ensures { Scanned (answers_of node.handed answers.now) (tables_before points corners neighbours)
         node.position node.used node.used state.new list.new result }
 {
-    let n = node.used;
     let mut g = Gathered {
         size: 0,
         least: 0.0,
         at: 0,
     };
-    let mut c: usize = 0;
-    while c < n {
+    for c in 0..node.used {
         if may_hold(codes, four_at(corners, c)) {
             g = try_base(
                 points, corners, neighbours, answers, node, c, state, list, g,
             );
         }
-        c += 1;
     }
     g
 }

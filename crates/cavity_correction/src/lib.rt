@@ -59,13 +59,14 @@ pub fn correct(
         × (set_of node.used state.new ≡ corrected (tables_before points corners neighbours) node.used node.position (base (tables_before points corners neighbours) node.used node.position) (set_of node.used state.old))
         × Inspected (tables_before points corners neighbours) node.used node.position (set_of node.used state.new) state.new faces.new }
 {
-    let mut size = before + 1;
-    let mut kept = before;
-    while kept < size {
-        size = kept;
-        kept = round(
+    let mut size = before;
+    loop {
+        let kept = round(
             points, corners, neighbours, node, size, state, list, faces, exposed,
         );
+        if kept == size {
+            return kept;
+        }
+        size = kept;
     }
-    kept
 }

@@ -9,38 +9,42 @@ ghost use Rattle.mesh.specs.Inner.{four_at, SomeMesh};
 ghost use Rattle.cavity.specs.Inner.{Enumerated};
 ghost use Rattle.cavity.specs.Inner.Correction.{wall_kind, face_kind, face_kinds, kinds_code, with_face, with_faces, NoneExposed, CornersListed, without_corners, InspectedTo};
 
-use cavity::Node;
+use cavity::{HIDDEN, Node, VISIBLE};
 use geometry::volume::volumes_at;
+use mesh::NONE;
 use mesh_tables::{four_at, load, other_places, positions};
 
-// A face on a wall, with the node at this volume from it: 1 visible, 16 hidden, 0 coplanar.
+const NEITHER: u8 = 0;
+
+// A face on a wall, with the node at this volume from it; a coplanar one is neither visible nor hidden.
+#[tactic(auto, unfolding(cavity::specs::Inner::Correction::wall_kind))]
 fn wall_kind(side: i64) -> u8
     ensures { result ≡ wall_kind side }
 {
-    if 0 < side {
-        return 1;
+    if side > 0 {
+        VISIBLE
+    } else if side < 0 {
+        HIDDEN
+    } else {
+        NEITHER
     }
-    if side < 0 {
-        return 16;
-    }
-    0
 }
 
-// A face with u across it: 1 visible, 16 hidden, 0 neither.
+// A face with u across it: between two cells of the cavity it is neither.
+#[tactic(auto, unfolding(cavity::specs::Inner::Correction::face_kind))]
 fn face_kind(state: &[u8], u: u16, v: i64) -> u8
     requires { u ≢ none → u < length state.now }
     ensures { result ≡ face_kind state.now u v }
 {
-    if u == 65535 {
-        return wall_kind(v);
+    if u == NONE {
+        wall_kind(v)
+    } else if state[usize::from(u)] != 0 {
+        NEITHER
+    } else if v > 0 {
+        VISIBLE
+    } else {
+        HIDDEN
     }
-    if state[u as usize] != 0 {
-        return 0;
-    }
-    if 0 < v {
-        return 1;
-    }
-    16
 }
 
 fn face_kinds(
@@ -55,11 +59,9 @@ fn face_kinds(
         × (length state.now ≡ 4096) × IsCell (tables_in points corners neighbours) node.used c }
     ensures { result ≡ face_kinds (tables_before points corners neighbours) node.position state.now c }
 {
-    let q = node.position;
     let cell = load(corners, neighbours, c);
-    let k = cell.corners;
     let u = cell.neighbours;
-    let v = volumes_at(positions(points, k), q);
+    let v = volumes_at(positions(points, cell.corners), node.position);
     [
         face_kind(state, u[0], v.v0),
         face_kind(state, u[1], v.v1),
@@ -68,6 +70,7 @@ fn face_kinds(
     ]
 }
 
+#[tactic(auto, unfolding(cavity::specs::Inner::Correction::kinds_code))]
 fn code_of(k: [u8; 4]) -> u8
     requires { (i : ℕ) → i < 4 → get_or k i 0 ≤ 16 }
     ensures { result ≡ kinds_code k }
@@ -76,30 +79,25 @@ fn code_of(k: [u8; 4]) -> u8
 }
 
 // The points of a visible face are exposed.
+#[tactic(auto, unfolding(cavity::specs::Inner::Correction::with_face))]
 fn mark_face(exposed: &mut [u8], kind: u8, a: u16, b: u16, c: u16)
     requires { (a < length exposed.old) × (b < length exposed.old) × (c < length exposed.old) }
     ensures { exposed.new ≡ with_face exposed.old kind a b c }
 {
-    if kind != 1 {
-        return;
+    if kind == VISIBLE {
+        exposed[usize::from(a)] = 1;
+        exposed[usize::from(b)] = 1;
+        exposed[usize::from(c)] = 1;
     }
-    exposed[a as usize] = 1;
-    exposed[b as usize] = 1;
-    exposed[c as usize] = 1;
 }
 
 fn mark_faces(exposed: &mut [u8], k: [u8; 4], v: [u16; 4])
     requires { (j : ℕ) → j < 4 → get_or v j 0 < length exposed.old }
     ensures { exposed.new ≡ with_faces 4 exposed.old k v }
 {
-    let mut i: usize = 0;
-    while i < 4 {
+    for i in 0..4 {
         let at = other_places(i);
-        let first = at.first;
-        let second = at.second;
-        let third = at.third;
-        mark_face(exposed, k[i], v[first], v[second], v[third]);
-        i += 1;
+        mark_face(exposed, k[i], v[at.first], v[at.second], v[at.third]);
     }
 }
 
@@ -130,10 +128,9 @@ fn hide(exposed: &mut [u8], k: [u16; 4])
     requires { (j : ℕ) → j < 4 → get_or k j 0 < length exposed.old }
     ensures { exposed.new ≡ without_corners exposed.old k }
 {
-    exposed[k[0] as usize] = 0;
-    exposed[k[1] as usize] = 0;
-    exposed[k[2] as usize] = 0;
-    exposed[k[3] as usize] = 0;
+    for v in k {
+        exposed[usize::from(v)] = 0;
+    }
 }
 
 // No corner of a listed cell is marked: these are all that a round asks for, so that marks of earlier rounds and nodes may stay elsewhere.
@@ -141,10 +138,8 @@ pub fn hide_corners(corners: &[u16], list: &[u16], size: usize, exposed: &mut [u
     requires { CornersListed corners.now list.now size × (length exposed.old ≡ 1024) }
     ensures { NoneExposed (tables [] corners.now []) list.now size exposed.new }
 {
-    let mut h: usize = 0;
-    while h < size {
-        hide(exposed, four_at(corners, list[h] as usize));
-        h += 1;
+    for &c in &list[..size] {
+        hide(exposed, four_at(corners, usize::from(c)));
     }
 }
 
@@ -165,10 +160,16 @@ pub fn inspect_all(
     ensures { InspectedTo (tables_before points corners neighbours) node.used node.position state.now list.now size size
         faces.new exposed.new }
 {
-    let mut h: usize = 0;
-    while h < size {
-        let c = list[h] as usize;
-        inspect(points, corners, neighbours, node, state, c, faces, exposed);
-        h += 1;
+    for &c in &list[..size] {
+        inspect(
+            points,
+            corners,
+            neighbours,
+            node,
+            state,
+            usize::from(c),
+            faces,
+            exposed,
+        );
     }
 }

@@ -45,19 +45,17 @@ pub fn find_cavity(
             holder: 0,
         };
     }
-    let holder = base.at;
-    let all = grow(
+    let grown = grow(
         points, corners, neighbours, answers, node, denied, state, list, base,
     );
-    let before = all.size;
     let after = correct(
-        points, corners, neighbours, node, before, state, list, faces, exposed,
+        points, corners, neighbours, node, grown.size, state, list, faces, exposed,
     );
     Extent {
-        before: before,
-        after: after,
-        least: all.least,
-        holder: holder,
+        before: grown.size,
+        after,
+        least: grown.least,
+        holder: base.at,
     }
 }
 
@@ -66,10 +64,7 @@ pub fn clear_states(list: &[u16], size: usize, state: &mut [u8])
     requires { Listed state.old list.now size }
     ensures { Empty state.new list.now }
 {
-    let mut h: usize = 0;
-    while h < size {
-        let c = list[h] as usize;
-        state[c] = 0;
-        h += 1;
+    for &c in &list[..size] {
+        state[usize::from(c)] = 0;
     }
 }

@@ -9,8 +9,9 @@ ghost use Rattle.cavity.specs.Cavity.{cavity_of};
 ghost use Rattle.cavity.specs.Inner.{Answerable, set_of};
 ghost use Rattle.cavity.specs.Inner.Growth.{Reached, Grew, Neighbour, InsideIfYes, Denied};
 
-use cavity::{Gathered, Node};
+use cavity::{GROWN, Gathered, Node};
 use cavity_base::{answer_of, join};
+use mesh::NONE;
 use mesh_tables::four_at;
 
 // What lies across a face joins if it is a cell, is not in yet, and its answer is yes. A cell is asked once: what answers no is noted, by a
@@ -38,24 +39,21 @@ fn visit(
         node.position state.new d
         × Denied (answers_of node.handed answers.now) (tables_before points corners neighbours) node.position node.points denied.new }
 {
-    if d == 65535 {
+    if d == NONE {
         return g;
     }
-    let c = d as usize;
-    if state[c] != 0 {
-        return g;
-    }
+    let c = usize::from(d);
     let stamp = node.points as u16;
-    if denied[c] == stamp {
+    if state[c] != 0 || denied[c] == stamp {
         return g;
     }
-    let a = answer_of(points, corners, neighbours, answers, node, c);
-    let yes = a.yes;
-    if !yes {
+    let answer = answer_of(points, corners, neighbours, answers, node, c);
+    if answer.yes {
+        join(state, list, g, c, answer.t, GROWN)
+    } else {
         denied[c] = stamp;
-        return g;
+        g
     }
-    join(state, list, g, c, a.t, 1)
 }
 
 // The four neighbours u of a cell.
@@ -83,12 +81,10 @@ fn visit_all(
         × Denied (answers_of node.handed answers.now) (tables_before points corners neighbours) node.position node.points denied.new }
 {
     let mut g = start;
-    let mut j: usize = 0;
-    while j < 4 {
+    for d in u {
         g = visit(
-            points, corners, neighbours, answers, node, u[j], denied, state, list, g,
+            points, corners, neighbours, answers, node, d, denied, state, list, g,
         );
-        j += 1;
     }
     g
 }
@@ -115,9 +111,10 @@ pub fn grow(
         × Denied (answers_of node.handed answers.now) (tables_before points corners neighbours) node.position node.points denied.new }
 {
     let mut g = start;
-    let mut h: usize = 0;
+    let mut h = 0;
+    // The list grows while it is gone through, so that no range or slice of it is known.
     while h < g.size {
-        let c = list[h] as usize;
+        let c = usize::from(list[h]);
         g = visit_all(
             points,
             corners,

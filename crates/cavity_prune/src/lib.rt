@@ -8,7 +8,7 @@ ghost use Rattle.mesh.specs.Inner.{four_at, HasCell, SomeMesh};
 ghost use Rattle.cavity.specs.Cavity.{base};
 ghost use Rattle.cavity.specs.Inner.Correction.{Correctable, InspectedTo, all_exposed, cell_stays, KeptOrRemoved, Round};
 
-use cavity::Node;
+use cavity::{BASE, HIDDEN, Node};
 use mesh_tables::four_at;
 
 // Every point of k is on a visible face.
@@ -16,29 +16,17 @@ fn all_exposed(exposed: &[u8], k: [u16; 4]) -> bool
     requires { (j : ℕ) → j < 4 → get_or k j 0 < length exposed.now }
     ensures { result ≡ all_exposed exposed.now k }
 {
-    let mut i: usize = 0;
-    while i < 4 {
-        if exposed[k[i] as usize] == 0 {
-            return false;
-        }
-        i += 1;
-    }
-    true
+    k.iter().all(|&v| exposed[usize::from(v)] != 0)
 }
 
 // Whether a cell of the cavity stays in this round.
+#[tactic(auto, unfolding(cavity::specs::Inner::Correction::cell_stays))]
 fn stays(corners: &[u16], state: &[u8], faces: &[u8], exposed: &[u8], c: usize) -> bool
     requires { HasCell c corners.now × (c < length state.now) × (c < length faces.now)
         × ((i : ℕ) → i < 4 → get_or (four_at corners.now c) i 0 < length exposed.now) }
     ensures { result ≡ cell_stays state.now faces.now exposed.now (four_at corners.now c) c }
 {
-    if state[c] == 2 {
-        return true;
-    }
-    if 16 <= faces[c] {
-        return false;
-    }
-    all_exposed(exposed, four_at(corners, c))
+    state[c] == BASE || faces[c] < HIDDEN && all_exposed(exposed, four_at(corners, c))
 }
 
 // Keeps the listed cell at place i, or removes it.
@@ -57,13 +45,14 @@ fn keep_or_remove(
     ensures { KeptOrRemoved (cell_stays state.old faces.now exposed.now (four_at corners.now (get_or list.old i 0)) (get_or list.old i 0))
         (get_or list.old i 0) state.old list.old kept state.new list.new result }
 {
-    let c = list[i] as usize;
+    let c = usize::from(list[i]);
     if stays(corners, state, faces, exposed, c) {
-        list[kept] = c as u16;
-        return kept + 1;
+        list[kept] = list[i];
+        kept + 1
+    } else {
+        state[c] = 0;
+        kept
     }
-    state[c] = 0;
-    kept
 }
 
 // Removes the cells that do not stay, from the set and from the list.
@@ -83,11 +72,9 @@ pub fn prune(
         × InspectedTo (tables_in points corners neighbours) node.used node.position state.old list.old size size faces.now exposed.now }
     ensures { Round (tables_before points corners neighbours) node.used node.position state.old size state.new list.new result }
 {
-    let mut kept: usize = 0;
-    let mut i: usize = 0;
-    while i < size {
+    let mut kept = 0;
+    for i in 0..size {
         kept = keep_or_remove(corners, faces, exposed, state, list, kept, i);
-        i += 1;
     }
     kept
 }

@@ -7,7 +7,7 @@ use Rattle.geometry.specs.declared.Position.{Position}
 use Rattle.mesh.specs.Tables.{IsCell}
 use Rattle.mesh.specs.Check.{is_mesh}
 use Rattle.mesh.specs.Refusal.{mesh_refusal}
-use Rattle.locate.specs.declared.Located.TheVariants.{Cell}
+use Rattle.locate.specs.Locate.{Cell}
 use Rattle.locate.specs.Locate.{locate_call}
 use Rattle.calls.specs.Calls.{Build as MeshBuild}
 use Rattle.located.specs.Claim.{Stands, KeepsNumber}

@@ -18,13 +18,13 @@ use Rattle.mesh.specs.declared.Mesh.{Mesh}
 use Rattle.mesh.specs.Tables.{Tables, point_capacity, point}
 use Rattle.mesh.specs.Start.{start_refusal}
 use Rattle.mesh.specs.Refusal.{mesh_refusal}
-use Rattle.locate.specs.declared.Located.TheVariants.{Refused as NotLocated}
+use Rattle.locate.specs.Locate.{Refused as NotLocated}
 use Rattle.locate.specs.Locate.{holds, locate_refusal, locate_call}
 use Rattle.cavity.specs.Answers.{Answers, sphere}
-use Rattle.insertion.specs.declared.Inserted.TheVariants.{Refused}
-use Rattle.insertion.specs.declared.Looked.TheVariants.{Reported, Refused as NotLooked}
-use Rattle.insertion.specs.declared.Listed.{Listed}
-use Rattle.insertion.specs.declared.Listed.TheVariants.{Ended, Stopped, Refused as AllRefused}
+use Rattle.insertion.specs.Inserted.{Refused}
+use Rattle.insertion.specs.Looked.{Reported, Refused as NotLooked}
+use Rattle.insertion.specs.Listed.{Listed}
+use Rattle.insertion.specs.Listed.{Ended, Stopped, Refused as AllRefused}
 use Rattle.insertion.specs.Insertion.{node_refusal, first_of, insert_refusal, insert_unless, insert_call}
 use Rattle.insertion.specs.Look.{look_refusal, look_unless, look_call, marked_refusal, marked_call, cavity_marks, begins_with}
 use Rattle.insertion.specs.List.{listed_node, listed_count, insert_from, list_call}
@@ -32,7 +32,7 @@ use Rattle.insertion.proofs.Refusals.{chain≤, up_to_eight, cells_full, refused
 use Rattle.insertion.proofs.Steps.{list_begins, list_refused, node_in as plain_in, node_out as plain_out}
 use Rattle.covering.proofs.NeverSeven.{never_seven}
 use Rattle.corrections.specs.declared.Correction.{Correction}
-use Rattle.corrections.specs.declared.Corrected.TheVariants.{By, Refused as NotCorrected}
+use Rattle.corrections.specs.Corrections.{By, Refused as NotCorrected}
 use Rattle.corrections.specs.Corrections.{out_of_range, too_short}
 use Rattle.corrections.specs.Calls.{with_length, with_range, with_table, left_unless, insert_with, marked_with, look_with, list_with, is_correction, set_refusal, correction_refusal, correction_call, insert_from_with}
 use Rattle.corrections.proofs.Refusals.{range_in, length_long, length_short, mesh_three, range_late, range_passed, left_refused}

@@ -18,8 +18,8 @@ use Rattle.mesh.specs.Check.{is_mesh}
 use Rattle.mesh.specs.Refusal.{mesh_refusal}
 use Rattle.mesh.proofs.Valid.{passed}
 use Rattle.cavity.specs.Answers.{Answers, sphere, handed}
-use Rattle.insertion.specs.declared.Inserted.{Inserted}
-use Rattle.insertion.specs.declared.Listed.{Listed}
+use Rattle.insertion.specs.Inserted.{Inserted}
+use Rattle.insertion.specs.Listed.{Listed}
 use Rattle.insertion.specs.Insertion.{Result, node_refusal, fewer_bytes, insert_refusal, inserted_mesh, inserted_tables, insert_unless, insert_call}
 use Rattle.insertion.specs.Look.{look_refusal, look_call, marked_refusal, marked_call}
 use Rattle.insertion.specs.List.{listed_node, listed_count, insert_from, list_call}

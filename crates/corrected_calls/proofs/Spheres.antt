@@ -9,7 +9,7 @@ use Rattle.mesh.specs.Tables.{Tables}
 use Rattle.mesh.specs.Start.{start_refusal}
 use Rattle.cavity.specs.Answers.{Answers, sphere}
 use Rattle.insertion.specs.declared.Report.{Report}
-use Rattle.insertion.specs.declared.Inserted.TheVariants.{Accepted}
+use Rattle.insertion.specs.Inserted.{Accepted}
 use Rattle.insertion.specs.Insertion.{insert_refusal, insert_unless, insert_call}
 use Rattle.insertion.proofs.Refusals.{accepted_unless}
 use Rattle.calls.specs.Calls.{Call as MeshCall, start_build as plain_start}

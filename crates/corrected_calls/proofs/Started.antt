@@ -9,11 +9,11 @@ use borrow.Author.Tests.{le-ltb, ne_eqb}
 use lib.ListN.{length}
 use lib.IntN.{ℤ}
 use Rattle.mesh.specs.declared.Mesh.{Mesh}
-use Rattle.mesh.specs.declared.Started.{Started}
-use Rattle.mesh.specs.declared.Started.TheVariants.{Accepted, Refused}
+use Rattle.mesh.specs.Start.{Started}
+use Rattle.mesh.specs.Start.{Accepted, Refused}
 use Rattle.mesh.specs.Tables.{Tables, point_capacity}
 use Rattle.mesh.specs.Start.{started_mesh, start_refusal, start_answer, start_tables, StartLeaves}
-use Rattle.insertion.specs.declared.Listed.{Listed}
+use Rattle.insertion.specs.Listed.{Listed}
 use Rattle.insertion.specs.List.{ListLeaves}
 use Rattle.corrections.specs.Corrections.{out_of_range, too_short}
 use Rattle.corrections.specs.Calls.{Leaves, with_length, start_with, list_with}

@@ -30,7 +30,7 @@ use Rattle.insertion.proofs.Refusals.{test_to_zero, both_pass}
 use Rattle.calls.specs.Calls.{mesh_after, accepted_by as mesh_accepted, Call as MeshCall, outcome as mesh_outcome, start_build as plain_start, Claim as MeshClaim}
 use Rattle.calls.proofs.Calls.{every_list_of_calls as every_list_without}
 use Rattle.corrections.specs.declared.Correction.{Correction}
-use Rattle.corrections.specs.declared.Corrected.TheVariants.{By}
+use Rattle.corrections.specs.Corrections.{By}
 use Rattle.corrections.specs.Corrections.{out_of_range, too_short, in_range, with_correction, correction_at}
 use Rattle.corrections.specs.Calls.{with_length, with_table, corners_cleared, start_with, is_correction, set_refusal, set_table, correction_refusal, correction_call}
 use Rattle.corrections.proofs.Refusals.{range_in, length_long, length_passed}

@@ -6,15 +6,15 @@ use Rattle.mesh.specs.Tables.{Tables, point}
 use Rattle.mesh.specs.Start.{started_mesh}
 use Rattle.mesh.specs.Refusal.{mesh_refusal}
 use Rattle.cavity.specs.Answers.{Answers, sphere, handed}
-use Rattle.insertion.specs.declared.Inserted.{Inserted}
-use Rattle.insertion.specs.declared.Inserted.TheVariants.{Refused}
-use Rattle.insertion.specs.declared.Looked.TheVariants.{Refused as NotLooked}
-use Rattle.insertion.specs.declared.Listed.{Listed}
-use Rattle.insertion.specs.declared.Listed.TheVariants.{Stopped, Refused as AllRefused}
+use Rattle.insertion.specs.Inserted.{Inserted}
+use Rattle.insertion.specs.Inserted.{Refused}
+use Rattle.insertion.specs.Looked.{Refused as NotLooked}
+use Rattle.insertion.specs.Listed.{Listed}
+use Rattle.insertion.specs.Listed.{Stopped, Refused as AllRefused}
 use Rattle.insertion.specs.Look.{LookResult}
 use Rattle.calls.specs.Calls.{by_sphere, by_answers, by_marks, by_list, look, record_after, record_after_list, accepted_node, accepted_nodes, Build as MeshBuild, Call as MeshCall, Claim as MeshClaim}
 use Rattle.corrections.specs.declared.Correction.{Correction}
-use Rattle.corrections.specs.declared.Corrected.TheVariants.{By, Refused as NotCorrected}
+use Rattle.corrections.specs.Corrections.{By, Refused as NotCorrected}
 use Rattle.corrections.specs.Corrections.{out_of_range}
 use Rattle.corrections.specs.Calls.{Left, start_with, insert_with, marked_with, look_with, list_with, is_correction, set_refusal, set_table, correction_call}
 

@@ -4,7 +4,7 @@ use Rattle.geometry.specs.declared.Position.{Position}
 use Rattle.mesh.specs.declared.Mesh.{Mesh}
 use Rattle.cavity.specs.Answers.{sphere}
 use Rattle.insertion.specs.declared.Report.{Report}
-use Rattle.insertion.specs.declared.Inserted.TheVariants.{Accepted}
+use Rattle.insertion.specs.Inserted.{Accepted}
 use Rattle.corrections.specs.Calls.{insert_with}
 use Rattle.spheres.specs.Claim.{OwnCall}
 use Rattle.corrected_calls.specs.Calls.{Build, Call, on_mesh, set, read, outcome}

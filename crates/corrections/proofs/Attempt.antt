@@ -10,7 +10,7 @@ use Rattle.mesh.specs.Tables.{Tables, tables, point_capacity, corner, corner_at,
 use Rattle.mesh.proofs.Valid.{solid, in_range_lem}
 use Rattle.locate.specs.Locate.{holds}
 use Rattle.cavity.specs.declared.Node.{Node}
-use Rattle.insertion.specs.declared.Found.{Found}
+use Rattle.insertion.specs.Inner.{Found}
 use Rattle.insertion.specs.Inner.{Starable}
 use Rattle.insertion.proofs.Admission.{next_point, H}
 use Rattle.corrections.specs.declared.Correction.{Correction}

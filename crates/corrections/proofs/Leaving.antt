@@ -18,12 +18,12 @@ use Rattle.mesh.specs.Check.{is_mesh}
 use Rattle.mesh.specs.Refusal.{mesh_refusal}
 use Rattle.mesh.proofs.Valid.{passed}
 use Rattle.cavity.specs.Answers.{Answers, sphere}
-use Rattle.insertion.specs.declared.Attempt.{Attempt}
-use Rattle.insertion.specs.declared.Inserted.TheVariants.{Refused}
-use Rattle.insertion.specs.declared.Listed.{Listed}
-use Rattle.insertion.specs.declared.Listed.TheVariants.{Refused as AllRefused}
-use Rattle.insertion.specs.declared.Looked.{Looked}
-use Rattle.insertion.specs.declared.Looked.TheVariants.{Refused as LookRefused}
+use Rattle.insertion.specs.Inner.{Attempt}
+use Rattle.insertion.specs.Inserted.{Refused}
+use Rattle.insertion.specs.Listed.{Listed}
+use Rattle.insertion.specs.Listed.{Refused as AllRefused}
+use Rattle.insertion.specs.Looked.{Looked}
+use Rattle.insertion.specs.Looked.{Refused as LookRefused}
 use Rattle.insertion.specs.Insertion.{node_refusal, fewer_bytes, insert_refusal}
 use Rattle.insertion.specs.Look.{look_refusal, look_unless, marked_refusal, begins_with, cavity_marks}
 use Rattle.insertion.specs.Inner.{refusal_with, AttemptLeaves, NodeLooked}

@@ -17,11 +17,11 @@ use Rattle.mesh.specs.Check.{is_mesh}
 use Rattle.mesh.proofs.Room.{room_of}
 use Rattle.mesh.proofs.Valid.{valid_of}
 use Rattle.cavity.specs.Answers.{Answers, sphere}
-use Rattle.insertion.specs.declared.Attempt.{Attempt}
-use Rattle.insertion.specs.declared.Inserted.{Inserted}
-use Rattle.insertion.specs.declared.Inserted.TheVariants.{Accepted, Refused}
-use Rattle.insertion.specs.declared.Listed.{Listed}
-use Rattle.insertion.specs.declared.Listed.TheVariants.{Ended, Stopped}
+use Rattle.insertion.specs.Inner.{Attempt}
+use Rattle.insertion.specs.Inserted.{Inserted}
+use Rattle.insertion.specs.Inserted.{Accepted, Refused}
+use Rattle.insertion.specs.Listed.{Listed}
+use Rattle.insertion.specs.Listed.{Ended, Stopped}
 use Rattle.insertion.specs.declared.Report.{Report}
 use Rattle.insertion.specs.Insertion.{node_refusal, insert_node}
 use Rattle.insertion.specs.List.{listed_node, listed_count}

@@ -25,7 +25,7 @@ use Rattle.arith.proofs.Tables.{any_found}
 use Rattle.insertion.proofs.Refusals.{first_refuses, first_passes}
 use Rattle.insertion.proofs.Leaving.{same_work}
 use Rattle.corrections.specs.declared.Correction.{Correction}
-use Rattle.corrections.specs.declared.Corrected.TheVariants.{By, Refused}
+use Rattle.corrections.specs.Corrections.{By, Refused}
 use Rattle.corrections.specs.Corrections.{out_of_range, too_short, weighted_sum, value_in, correction_in, correction_at, with_correction}
 use Rattle.corrections.specs.Calls.{with_length, with_range, with_table, is_correction, set_refusal, set_table, correction_refusal, correction_call}
 use Rattle.corrections.specs.Inner.{Readable}

@@ -20,7 +20,7 @@ use Rattle.mesh.specs.Check.{legal_box, is_mesh}
 use Rattle.mesh.specs.Refusal.{mesh_refusal}
 use Rattle.locate.specs.Locate.{holds}
 use Rattle.cavity.specs.Answers.{Answers}
-use Rattle.insertion.specs.declared.Inserted.TheVariants.{Accepted, Refused}
+use Rattle.insertion.specs.Inserted.{Accepted, Refused}
 use Rattle.insertion.specs.Insertion.{node_refusal, report_of, inserted_mesh, inserted_tables}
 use Rattle.insertion.proofs.Refusals.{chain≤, is_outside, is_taken, is_points_full, is_unheld, is_cells_full, is_accepted, cells_full, unless_accepted, unless_refused}
 use Rattle.corrections.specs.Corrections.{out_of_range, too_short}

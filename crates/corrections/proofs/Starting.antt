@@ -12,8 +12,8 @@ use lib.ListN.{length, set, drop, replicate}
 use lib.IntN.{ℤ, pos}
 use Rattle.arith.proofs.Flags.{clash, fails, or_left}
 use Rattle.mesh.specs.declared.Mesh.{Mesh}
-use Rattle.mesh.specs.declared.Started.{Started}
-use Rattle.mesh.specs.declared.Started.TheVariants.{Accepted, Refused}
+use Rattle.mesh.specs.Start.{Started}
+use Rattle.mesh.specs.Start.{Accepted, Refused}
 use Rattle.mesh.specs.Tables.{Tables, point_capacity, cleared}
 use Rattle.mesh.specs.Start.{short, started_mesh, start_refusal, start_answer, start_tables, StartLeaves}
 use Rattle.insertion.proofs.Refusals.{test_to_zero}

@@ -3,24 +3,24 @@
 use Rattle.std.specs.Prelude.{ℕ, zero, suc, Bool, false, not, ◌&&◌, ◌||◌, cond, List, ◌++◌, ◌≡◌, ltb, eqb, drop, replicate, ℤ, pos}
 use Rattle.geometry.specs.declared.Position.{Position}
 use Rattle.mesh.specs.declared.Mesh.{Mesh}
-use Rattle.mesh.specs.declared.Started.{Started}
-use Rattle.mesh.specs.declared.Started.TheVariants.{Accepted as StartAccepted, Refused as StartRefused}
+use Rattle.mesh.specs.Start.{Started}
+use Rattle.mesh.specs.Start.{Accepted as StartAccepted, Refused as StartRefused}
 use Rattle.mesh.specs.Tables.{Tables, cleared}
 use Rattle.mesh.specs.Start.{started, started_mesh, start_refusal}
 use Rattle.mesh.specs.Refusal.{mesh_refusal}
 use Rattle.locate.specs.Locate.{locate_refusal}
 use Rattle.cavity.specs.Answers.{Answers, sphere}
-use Rattle.insertion.specs.declared.Inserted.{Inserted}
-use Rattle.insertion.specs.declared.Inserted.TheVariants.{Accepted, Refused}
-use Rattle.insertion.specs.declared.Looked.{Looked}
-use Rattle.insertion.specs.declared.Listed.{Listed}
-use Rattle.insertion.specs.declared.Listed.TheVariants.{Ended, Stopped, Refused as AllRefused}
+use Rattle.insertion.specs.Inserted.{Inserted}
+use Rattle.insertion.specs.Inserted.{Accepted, Refused}
+use Rattle.insertion.specs.Looked.{Looked}
+use Rattle.insertion.specs.Listed.{Listed}
+use Rattle.insertion.specs.Listed.{Ended, Stopped, Refused as AllRefused}
 use Rattle.insertion.specs.Insertion.{node_refusal, first_of, insert_refusal, insert_unless}
 use Rattle.insertion.specs.Look.{LookResult, look_refusal, look_unless, marked_refusal}
 use Rattle.insertion.specs.List.{listed_node, listed_count}
 use Rattle.corrections.specs.declared.Correction.{Correction}
-use Rattle.corrections.specs.declared.Corrected.{Corrected}
-use Rattle.corrections.specs.declared.Corrected.TheVariants.{By, Refused as NotCorrected}
+use Rattle.corrections.specs.Corrections.{Corrected}
+use Rattle.corrections.specs.Corrections.{By, Refused as NotCorrected}
 use Rattle.corrections.specs.Corrections.{in_range, out_of_range, too_short, with_correction, correction_at}
 
 -- ---- refusals

@@ -1,11 +1,22 @@
 -- A table of corrections, three numbers a point, and the correction of a position.
-use Rattle.std.specs.Prelude.{ℕ, ◌+◌, ◌*◌, Bool, not, List, leb, ltb, length, get_or, set, ℤ, pos, nat_abs, ◌*ℤ◌}
+use Rattle.std.specs.Prelude.{ℕ, ◌+◌, ◌*◌, Bool, not, List, leb, ltb, length, get_or, set, ℤ, pos, nat_abs, ◌*ℤ◌, Result, Ok, Err}
+use Rattle.refusal.specs.declared.Refusal.{Refusal}
+use Rattle.refusal.specs.Refusal.{refusal_number}
 use Rattle.arith.specs.Table.{any_below, sum}
 use Rattle.geometry.specs.declared.Position.{Position}
 use Rattle.mesh.specs.Tables.{Tables, point_capacity, corner, side, cell_volume}
 use Rattle.locate.specs.Locate.{first_holder}
 use Rattle.corrections.specs.declared.Correction.{Correction}
 use Rattle.corrections.specs.Rounding.{rounded}
+
+-- what reading answers: a position's correction, or the refusal's number
+pub data Corrected : Type 0 where
+  By : Correction → Corrected
+  Refused : ℕ → Corrected
+
+abbrev pub as_corrected : Result Correction Refusal → Corrected
+as_corrected (Ok d) = By d
+as_corrected (Err e) = Refused (refusal_number e)
 
 -- the number of point v on axis k: 0 x, 1 y, 2 z
 unfoldable pub number_of : List ℤ → ℕ → ℕ → ℤ

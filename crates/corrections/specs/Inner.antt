@@ -8,11 +8,11 @@ use Rattle.mesh.specs.Tables.{Tables, tables, point}
 use Rattle.mesh.specs.Inner.{Solid}
 use Rattle.locate.specs.Locate.{holds}
 use Rattle.cavity.specs.Answers.{Answers, sphere}
-use Rattle.insertion.specs.declared.Attempt.{Attempt}
-use Rattle.insertion.specs.declared.Inserted.{Inserted}
-use Rattle.insertion.specs.declared.Looked.{Looked}
-use Rattle.insertion.specs.declared.Listed.{Listed}
-use Rattle.insertion.specs.declared.Listed.TheVariants.{Ended, Stopped}
+use Rattle.insertion.specs.Inner.{Attempt}
+use Rattle.insertion.specs.Inserted.{Inserted}
+use Rattle.insertion.specs.Looked.{Looked}
+use Rattle.insertion.specs.Listed.{Listed}
+use Rattle.insertion.specs.Listed.{Ended, Stopped}
 use Rattle.insertion.specs.Insertion.{node_refusal}
 use Rattle.insertion.specs.Look.{LookResult, look_refusal, look_unless}
 use Rattle.insertion.specs.List.{listed_node, listed_count}

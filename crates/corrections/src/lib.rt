@@ -10,10 +10,3 @@ pub struct Correction {
     pub y: i32,
     pub z: i32,
 }
-
-// A position's correction, or the refusal's number.
-#[derive(Clone, Copy)]
-pub enum Corrected {
-    By(Correction),
-    Refused(u8),
-}

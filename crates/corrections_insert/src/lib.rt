@@ -2,18 +2,21 @@
 
 #![tactic(auto)]
 
-ghost use Rattle.std.specs.Prelude.{true, ◌≡◌, ◌*◌, ◌≤◌, length};
+ghost use Rattle.std.specs.Prelude.{is_some, true, ◌≡◌, ◌*◌, ◌≤◌, length};
 ghost use Rattle.mesh.specs.Check.{is_mesh};
 ghost use Rattle.mesh.specs.Tables.{point_capacity, tables};
 ghost use Rattle.cavity.specs.Answers.{answers_of};
+ghost use Rattle.insertion.specs.Inner.{as_attempt};
+ghost use Rattle.insertion_marks.specs.Given.{given};
 ghost use Rattle.corrections.specs.Inner.{AttemptKeeps};
 
 use corrections_node::attempt_node;
 use corrections_tests::early_refusal;
 use corrections_value::out_of_range;
 use geometry::Position;
-use insertion::{Attempt, Inserted};
+use insertion::Insertion;
 use mesh::Mesh;
+use refusal::Refusal;
 
 pub fn insert_node(
     mesh: Mesh,
@@ -22,23 +25,17 @@ pub fn insert_node(
     neighbours: &mut [u16],
     corrections: &mut [i32],
     work: usize,
-    answers: &[u8],
-    handed: bool,
-    marks: &[u8],
-    asked: bool,
+    answers: Option<&[u8]>,
+    marks: Option<&[u8]>,
     q: Position,
-) -> Attempt
-    requires { (is_mesh mesh (tables points.old corners.old neighbours.old) work ≡ true) × (handed ≡ true → mesh.used ≤ length answers.now)
+) -> Result<Insertion, Refusal>
+    requires { (is_mesh mesh (tables points.old corners.old neighbours.old) work ≡ true) × (is_some answers ≡ true → mesh.used ≤ length (given answers))
         × (3 * point_capacity (tables points.old corners.old neighbours.old) ≤ length corrections.old) }
-    ensures { AttemptKeeps asked marks.now mesh (tables points.old corners.old neighbours.old) corrections.old work q (answers_of handed answers.now)
-        result (tables points.new corners.new neighbours.new) corrections.new }
+    ensures { AttemptKeeps (is_some marks.entry) (given marks.entry) mesh (tables points.old corners.old neighbours.old) corrections.old work q (answers_of (is_some answers.entry) (given answers.entry))
+        (as_attempt result) (tables points.new corners.new neighbours.new) corrections.new }
 {
     if out_of_range(corrections, mesh.points as usize) {
-        let early = early_refusal(mesh, points, q);
-        return Attempt {
-            refusal: early,
-            inserted: Inserted::Refused(early),
-        };
+        return Err(early_refusal(mesh, points, q));
     }
     let mut state = [0u8; 4096];
     let mut list = [0u16; 4096];
@@ -55,9 +52,7 @@ pub fn insert_node(
         corrections,
         work,
         answers,
-        handed,
         marks,
-        asked,
         q,
         &mut state,
         &mut list,

@@ -2,27 +2,35 @@
 
 #![tactic(auto)]
 
-ghost use Rattle.std.specs.Prelude.{◌≡◌, ◌*◌, ◌≤◌, length};
+ghost use Rattle.std.specs.Prelude.{Ok, ◌≡◌, ◌*◌, ◌≤◌, length};
 ghost use Rattle.mesh.specs.Tables.{tables};
+ghost use Rattle.insertion.specs.Listed.{as_listed};
 ghost use Rattle.corrections.specs.Calls.{Leaves, list_with};
 ghost use Rattle.corrections.specs.Inner.{refused_nodes};
 
 use corrections_nodes::insert_nodes;
-use corrections_tests::{early_refusal, table_refusal};
+use corrections_tests::{early_refusal, test_tables};
 use corrections_value::out_of_range;
-use insertion::Listed;
+use insertion::Insertions;
 use mesh::Mesh;
 use mesh_tables::{clear, point_at};
+use refusal::Refusal;
 
 // Over a table with a number out of range: an empty list ends, another stops at its first node.
-fn refuse_nodes(mesh: Mesh, points: &[u32], nodes: &[u32]) -> Listed
+fn refuse_nodes(mesh: Mesh, points: &[u32], nodes: &[u32]) -> Insertions
     requires { (mesh.points ≤ 1024) × (3 * mesh.points ≤ length points.now) }
-    ensures { result ≡ refused_nodes mesh points.now nodes.now }
+    ensures { as_listed (Ok result) ≡ refused_nodes mesh points.now nodes.now }
 {
-    if nodes.len() < 3 {
-        return Listed::Ended(mesh, 0);
+    let stopped = if nodes.len() < 3 {
+        None
+    } else {
+        Some(early_refusal(mesh, points, point_at(nodes, 0)))
+    };
+    Insertions {
+        mesh,
+        accepted: 0,
+        stopped,
     }
-    Listed::Stopped(mesh, 0, early_refusal(mesh, points, point_at(nodes, 0)))
 }
 
 // Inserts a list of nodes by the sphere test, three numbers a node.
@@ -34,18 +42,16 @@ pub fn insert_list(
     work: &mut [u16],
     corrections: &mut [i32],
     nodes: &[u32],
-) -> Listed
+) -> Result<Insertions, Refusal>
     ensures { Leaves (list_with mesh (tables points.old corners.old neighbours.old) corrections.old (length work.old) nodes.now) work.old
-        result (tables points.new corners.new neighbours.new) corrections.new work.new }
+        (as_listed result) (tables points.new corners.new neighbours.new) corrections.new work.new }
 {
     clear(work);
-    let w = work.len();
-    let refusal = table_refusal(mesh, points, corners, neighbours, corrections, w, false);
-    if refusal != 0 {
-        return Listed::Refused(refusal);
-    }
+    let room = work.len();
+    test_tables(mesh, points, corners, neighbours, corrections, room, false)?;
     if out_of_range(corrections, mesh.points as usize) {
-        return refuse_nodes(mesh, points, nodes);
+        Ok(refuse_nodes(mesh, points, nodes))
+    } else {
+        Ok(insert_nodes(mesh, points, corners, neighbours, corrections, room, nodes))
     }
-    insert_nodes(mesh, points, corners, neighbours, corrections, w, nodes)
 }

@@ -5,19 +5,21 @@
 ghost use Rattle.std.specs.Prelude.{true, ◌≡◌, length};
 ghost use Rattle.mesh.specs.Check.{is_mesh};
 ghost use Rattle.mesh.specs.Tables.{tables_in, tables_before, tables_after};
+ghost use Rattle.insertion.specs.Looked.{as_looked};
 ghost use Rattle.insertion.specs.Inner.{NodeLooked};
 ghost use Rattle.corrections.specs.Calls.{look_with, LookLeft};
 
 use cavity::Node;
-use corrections_tests::{early_refusal, table_refusal};
+use corrections_tests::{early_refusal, test_tables};
 use corrections_value::out_of_range;
 use geometry::Position;
-use insertion::Looked;
+use insertion::Report;
 use insertion_find::find;
 use insertion_marks::write_marks;
 use insertion_report::report;
 use mesh::Mesh;
 use mesh_tables::clear;
+use refusal::Refusal;
 
 // A look after tests 1 to 3. No mark is written before every test has passed.
 fn look_node(
@@ -28,16 +30,16 @@ fn look_node(
     work: usize,
     marks: &mut [u8],
     q: Position,
-) -> Looked
+) -> Result<Report, Refusal>
     requires { is_mesh mesh (tables_in points corners neighbours) work ≡ true }
-    ensures { NodeLooked mesh (tables_before points corners neighbours) work q marks.old result (tables_after points corners neighbours) marks.new }
+    ensures { NodeLooked mesh (tables_before points corners neighbours) work q marks.old (as_looked result) (tables_after points corners neighbours) marks.new }
 {
     let node = Node {
         position: q,
         points: mesh.points as usize,
         cells: mesh.cells as usize,
         used: mesh.used as usize,
-        work: work,
+        work,
         handed: false,
     };
     let none = [0u8; 1];
@@ -47,7 +49,7 @@ fn look_node(
     let mut denied = [0u16; 4096];
     let mut exposed = [0u8; 1024];
     let mut ranks = [0u16; 4096];
-    let found = find(
+    let replacement = find(
         mesh,
         points,
         corners,
@@ -60,17 +62,12 @@ fn look_node(
         &mut denied,
         &mut exposed,
         &mut ranks,
-    );
-    let refusal = found.refusal;
-    if refusal != 0 {
-        return Looked::Refused(refusal);
-    }
+    )?;
     if marks.len() < node.used {
-        return Looked::Refused(10);
+        return Err(Refusal::NoPlace);
     }
-    let seen = report(mesh, found);
     write_marks(node.used, &state, marks);
-    Looked::Reported(seen)
+    Ok(report(mesh, replacement))
 }
 
 // Looks at the insertion of a node by the sphere test: its report, and a mark for each entry in use, 1 where its cell would be replaced.
@@ -83,19 +80,15 @@ pub fn look(
     corrections: &[i32],
     marks: &mut [u8],
     q: Position,
-) -> Looked
+) -> Result<Report, Refusal>
     ensures { LookLeft (look_with mesh (tables_before points corners neighbours) corrections.now (length work.old) q marks.old) work.old
-        result (tables_after points corners neighbours) work.new marks.new }
+        (as_looked result) (tables_after points corners neighbours) work.new marks.new }
 {
     clear(work);
-    let w = work.len();
-    let refusal = table_refusal(mesh, points, corners, neighbours, corrections, w, false);
-    if refusal != 0 {
-        return Looked::Refused(refusal);
-    }
+    let room = work.len();
+    test_tables(mesh, points, corners, neighbours, corrections, room, false)?;
     if out_of_range(corrections, mesh.points as usize) {
-        let early = early_refusal(mesh, points, q);
-        return Looked::Refused(early);
+        return Err(early_refusal(mesh, points, q));
     }
-    look_node(mesh, points, corners, neighbours, w, marks, q)
+    look_node(mesh, points, corners, neighbours, room, marks, q)
 }

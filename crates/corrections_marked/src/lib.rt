@@ -4,14 +4,16 @@
 
 ghost use Rattle.std.specs.Prelude.{length};
 ghost use Rattle.mesh.specs.Tables.{tables};
+ghost use Rattle.insertion.specs.Inserted.{as_inserted};
 ghost use Rattle.corrections.specs.Calls.{Leaves, marked_with};
 
 use corrections_insert::insert_node;
-use corrections_tests::table_refusal;
+use corrections_tests::test_tables;
 use geometry::Position;
-use insertion::Inserted;
+use insertion::Insertion;
 use mesh::Mesh;
 use mesh_tables::clear;
+use refusal::Refusal;
 
 // Inserts one node by the sphere test, if a look would now give these marks.
 pub fn insert_marked(
@@ -23,29 +25,22 @@ pub fn insert_marked(
     corrections: &mut [i32],
     marks: &[u8],
     q: Position,
-) -> Inserted
+) -> Result<Insertion, Refusal>
     ensures { Leaves (marked_with mesh (tables points.old corners.old neighbours.old) corrections.old (length work.old) q marks.now) work.old
-        result (tables points.new corners.new neighbours.new) corrections.new work.new }
+        (as_inserted result) (tables points.new corners.new neighbours.new) corrections.new work.new }
 {
     clear(work);
-    let w = work.len();
-    let refusal = table_refusal(mesh, points, corners, neighbours, corrections, w, false);
-    if refusal != 0 {
-        return Inserted::Refused(refusal);
-    }
-    let none = [0u8; 1];
-    let marked = insert_node(
+    let size = work.len();
+    test_tables(mesh, points, corners, neighbours, corrections, size, false)?;
+    insert_node(
         mesh,
         points,
         corners,
         neighbours,
         corrections,
-        w,
-        &none,
-        false,
-        marks,
-        true,
+        size,
+        None,
+        Some(marks),
         q,
-    );
-    marked.inserted
+    )
 }

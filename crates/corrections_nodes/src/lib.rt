@@ -2,13 +2,14 @@
 
 #![tactic(auto)]
 
-ghost use Rattle.std.specs.Prelude.{true, ◌≡◌, ◌*◌, ◌≤◌, length};
+ghost use Rattle.std.specs.Prelude.{Ok, true, ◌≡◌, ◌*◌, ◌≤◌, length};
 ghost use Rattle.mesh.specs.Check.{is_mesh};
 ghost use Rattle.mesh.specs.Tables.{point_capacity, tables};
+ghost use Rattle.insertion.specs.Listed.{as_listed};
 ghost use Rattle.corrections.specs.Inner.{Standing, NodesKeep};
 
 use corrections_node::attempt_node;
-use insertion::{Inserted, Listed};
+use insertion::Insertions;
 use mesh::Mesh;
 use mesh_tables::point_at;
 
@@ -22,13 +23,12 @@ pub fn insert_nodes(
     corrections: &mut [i32],
     work: usize,
     nodes: &[u32],
-) -> Listed
+) -> Insertions
     requires { (is_mesh mesh (tables points.old corners.old neighbours.old) work ≡ true) × Standing mesh.points corrections.old
         × (3 * point_capacity (tables points.old corners.old neighbours.old) ≤ length corrections.old) }
     ensures { NodesKeep mesh (tables points.old corners.old neighbours.old) corrections.old work nodes.now
-        result (tables points.new corners.new neighbours.new) corrections.new }
+        (as_listed (Ok result)) (tables points.new corners.new neighbours.new) corrections.new }
 {
-    let none = [0u8; 1];
     let mut state = [0u8; 4096];
     let mut list = [0u16; 4096];
     let mut faces = [0u8; 4096];
@@ -38,19 +38,16 @@ pub fn insert_nodes(
     let mut slots = [0u16; 4096];
     let count = nodes.len() / 3;
     let mut now = mesh;
-    let mut i: usize = 0;
-    while i < count {
-        let attempt = attempt_node(
+    for i in 0..count {
+        match attempt_node(
             now,
             points,
             corners,
             neighbours,
             corrections,
             work,
-            &none,
-            false,
-            &none,
-            false,
+            None,
+            None,
             point_at(nodes, i),
             &mut state,
             &mut list,
@@ -59,13 +56,20 @@ pub fn insert_nodes(
             &mut exposed,
             &mut ranks,
             &mut slots,
-        );
-        let answer = attempt.inserted;
-        let Inserted::Accepted(next, _) = answer else {
-            return Listed::Stopped(now, i as u32, attempt.refusal);
-        };
-        now = next;
-        i += 1;
+        ) {
+            Ok(insertion) => now = insertion.mesh,
+            Err(refusal) => {
+                return Insertions {
+                    mesh: now,
+                    accepted: i as u32,
+                    stopped: Some(refusal),
+                };
+            }
+        }
     }
-    Listed::Ended(now, i as u32)
+    Insertions {
+        mesh: now,
+        accepted: count as u32,
+        stopped: None,
+    }
 }

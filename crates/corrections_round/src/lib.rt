@@ -5,16 +5,6 @@
 ghost use Rattle.std.specs.Prelude.{◌≡◌, ◌+◌, ◌*◌, ◌/◌, ◌^◌, ◌≤◌, ◌<◌, pos, nat_abs, ◌<ℤ◌};
 ghost use Rattle.corrections.specs.Rounding.{Nearest};
 
-fn magnitude(z: i64) -> u64
-    requires { nat_abs z ≤ 1000 * 2 ^ 52 }
-    ensures { result ≡ nat_abs z }
-{
-    if z < 0 {
-        return (0 - z) as u64;
-    }
-    z as u64
-}
-
 // a / v and a half, its whole part: one division, and no remainder.
 fn quotient(a: u64, v: u64) -> u64
     requires { (a ≤ 1000 * 2 ^ 52) × (0 < v) × (v ≤ 2 ^ 52) }
@@ -28,9 +18,6 @@ pub fn round(sum: i64, volume: i64) -> i64
     requires { (nat_abs sum ≤ 1000 * 2 ^ 52) × (pos 0 <ℤ volume) × (nat_abs volume ≤ 2 ^ 52) }
     ensures { Nearest sum volume result }
 {
-    let q = quotient(magnitude(sum), magnitude(volume));
-    if sum < 0 {
-        return 0 - (q as i64);
-    }
-    q as i64
+    let q = quotient(sum.unsigned_abs(), volume.unsigned_abs()) as i64;
+    if sum < 0 { -q } else { q }
 }

@@ -3,6 +3,7 @@
 #![tactic(auto)]
 
 ghost use Rattle.std.specs.Prelude.{List, ◌≡◌, ℕ, ◌*◌, ◌≤◌, length};
+ghost use Rattle.refusal.specs.Refusal.{refused_by, refusal_number};
 ghost use Rattle.mesh.specs.Tables.{tables, tables_before};
 ghost use Rattle.mesh.specs.Refusal.{mesh_refusal};
 ghost use Rattle.corrections.specs.Corrections.{too_short};
@@ -14,8 +15,9 @@ use geometry::volume::in_box;
 use insertion_tests::some_zero;
 use locate_holding::side_codes;
 use mesh::Mesh;
-use mesh_check::mesh_refusal;
+use mesh_check::test_mesh;
 use mesh_sizes::point_capacity;
+use refusal::Refusal;
 
 // Fewer than three entries for each point of capacity.
 pub fn too_short(points: &[u32], corrections: &[i32]) -> bool
@@ -25,7 +27,7 @@ pub fn too_short(points: &[u32], corrections: &[i32]) -> bool
 }
 
 // Tests 1 to 3.
-pub fn table_refusal(
+pub fn test_tables(
     mesh: Mesh,
     points: &[u32],
     corners: &[u16],
@@ -33,28 +35,28 @@ pub fn table_refusal(
     corrections: &[i32],
     work: usize,
     fewer: bool,
-) -> u8
-    ensures { result ≡ with_length (tables_before points corners neighbours) corrections.now
+) -> Result<(), Refusal>
+    ensures { refused_by result ≡ with_length (tables_before points corners neighbours) corrections.now
         (mesh_refusal mesh (tables_before points corners neighbours) work fewer) }
 {
     if too_short(points, corrections) {
-        return 1;
+        Err(Refusal::Short)
+    } else {
+        test_mesh(mesh, points, corners, neighbours, work, fewer)
     }
-    mesh_refusal(mesh, points, corners, neighbours, work, fewer)
 }
 
 // A node over a table with a number out of range: 4, 5 or 12.
-pub fn early_refusal(mesh: Mesh, points: &[u32], q: Position) -> u8
+pub fn early_refusal(mesh: Mesh, points: &[u32], q: Position) -> Refusal
     requires { (mesh.points ≤ 1024) × (3 * mesh.points ≤ length points.now) }
-    ensures { (ks ns : List ℕ) → result ≡ early_refusal mesh (tables points.now ks ns) q }
+    ensures { (ks ns : List ℕ) → refusal_number result ≡ early_refusal mesh (tables points.now ks ns) q }
 {
-    if !in_box(mesh.x, mesh.y, mesh.z, q) {
-        return 4;
-    }
     let np = mesh.points as usize;
-    let codes = side_codes(points, np, q);
-    if some_zero(&codes, np) {
-        return 5;
+    if !in_box(mesh.x, mesh.y, mesh.z, q) {
+        Refusal::Outside
+    } else if some_zero(&side_codes(points, np, q), np) {
+        Refusal::Taken
+    } else {
+        Refusal::OutOfRange
     }
-    12
 }

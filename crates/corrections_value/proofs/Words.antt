@@ -184,9 +184,6 @@ module _ (z : ℤ) (h : mag z < 2 ^ 31) where
   fits : SFits w64 z
   fits = record { sfits = omega arith }
 
-  pub widened_fits : SFits w64 (back w32 z)
-  widened_fits = subst (SFits w64) (sym read_32) fits
-
   pub widened : {r : ℤ} → r ≡ back w32 z → back w64 r ≡ z
   widened e = ap (λ x. back w64 x) (e ∙ read_32) ∙ to_z-of_z w64 z fits
 

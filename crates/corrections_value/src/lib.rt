@@ -16,17 +16,14 @@ use geometry::volume::volumes_at;
 use geometry::{Position, Volumes};
 use mesh_tables::{four_at, positions};
 
-fn wide(x: i32) -> i64
-    ensures { result ≡ x }
-{
-    x as i64
-}
+// A correction's numbers are from -1,000 to 1,000.
+const LIMIT: u32 = 1000;
 
-fn number_at(corrections: &[i32], axis: usize, v: usize) -> i64
+fn number_at(corrections: &[i32], axis: usize, v: u16) -> i64
     requires { 3 * v + axis < length corrections.now }
     ensures { result ≡ number_of corrections.now axis v }
 {
-    wide(corrections[3 * v + axis])
+    i64::from(corrections[3 * usize::from(v) + axis])
 }
 
 fn cell_volume(v: Volumes) -> i64
@@ -50,10 +47,10 @@ fn axis_value(corrections: &[i32], k: [u16; 4], axis: usize, v: Volumes) -> i32
         × ((i : ℕ) → i < 4 → (3 * get_or k i 0 + axis < length corrections.now) × (in_range (number_of corrections.now axis (get_or k i 0)) ≡ true)) }
     ensures { result ≡ rounded (sum 4 (λ i. volume_at v i *ℤ number_of corrections.now axis (get_or k i 0))) (sum 4 (volume_at v)) }
 {
-    let a = number_at(corrections, axis, k[0] as usize);
-    let b = number_at(corrections, axis, k[1] as usize);
-    let c = number_at(corrections, axis, k[2] as usize);
-    let d = number_at(corrections, axis, k[3] as usize);
+    let a = number_at(corrections, axis, k[0]);
+    let b = number_at(corrections, axis, k[1]);
+    let c = number_at(corrections, axis, k[2]);
+    let d = number_at(corrections, axis, k[3]);
     round(weighted_sum(v, a, b, c, d), cell_volume(v)) as i32
 }
 
@@ -73,16 +70,13 @@ pub fn correction_in(
     let x = axis_value(corrections, k, 0, v);
     let y = axis_value(corrections, k, 1, v);
     let z = axis_value(corrections, k, 2, v);
-    Correction { x: x, y: y, z: z }
+    Correction { x, y, z }
 }
 
 pub fn in_range(d: i32) -> bool
     ensures { result ≡ in_range d }
 {
-    if d < -1000 {
-        return false;
-    }
-    d <= 1000
+    d.unsigned_abs() <= LIMIT
 }
 
 // A number out of range stands in the table for one of np points.
@@ -90,13 +84,11 @@ pub fn out_of_range(corrections: &[i32], np: usize) -> bool
     requires { 3 * np ≤ length corrections.now }
     ensures { result ≡ out_of_range np corrections.now }
 {
-    let n = 3 * np;
-    let mut i: usize = 0;
-    while i < n {
-        if !in_range(corrections[i]) {
+    // A chain by `any` was tried: a closure is not told that a signed item fits its type, and the proof did not close.
+    for &d in &corrections[..3 * np] {
+        if !in_range(d) {
             return true;
         }
-        i += 1;
     }
     false
 }
@@ -105,11 +97,7 @@ pub fn put_correction(corrections: &mut [i32], v: usize, d: Correction)
     requires { 3 * v + 2 < length corrections.old }
     ensures { corrections.new ≡ with_correction corrections.old v d }
 {
-    let at = 3 * v;
-    let x = d.x;
-    let y = d.y;
-    let z = d.z;
-    corrections[at] = x;
-    corrections[at + 1] = y;
-    corrections[at + 2] = z;
+    corrections[3 * v] = d.x;
+    corrections[3 * v + 1] = d.y;
+    corrections[3 * v + 2] = d.z;
 }

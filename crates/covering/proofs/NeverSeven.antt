@@ -21,13 +21,13 @@ use Rattle.mesh.specs.Check.{legal_box, is_mesh}
 use Rattle.mesh.specs.Start.{short}
 use Rattle.mesh.specs.Refusal.{mesh_refusal}
 use Rattle.mesh.proofs.Valid.{passed}
-use Rattle.locate.specs.declared.Located.TheVariants.{Refused as NotLocated}
+use Rattle.locate.specs.Locate.{Refused as NotLocated}
 use Rattle.locate.specs.Locate.{holds, locate_refusal, locate_call}
 use Rattle.cavity.specs.Answers.{Answers, sphere}
-use Rattle.insertion.specs.declared.Inserted.TheVariants.{Refused}
-use Rattle.insertion.specs.declared.Looked.TheVariants.{Refused as NotLooked}
-use Rattle.insertion.specs.declared.Listed.{Listed}
-use Rattle.insertion.specs.declared.Listed.TheVariants.{Stopped, Refused as AllRefused}
+use Rattle.insertion.specs.Inserted.{Refused}
+use Rattle.insertion.specs.Looked.{Refused as NotLooked}
+use Rattle.insertion.specs.Listed.{Listed}
+use Rattle.insertion.specs.Listed.{Stopped, Refused as AllRefused}
 use Rattle.insertion.specs.Insertion.{cells_made, node_refusal, fewer_bytes, first_of, insert_refusal, insert_unless, insert_call}
 use Rattle.insertion.specs.List.{listed_node, listed_count, insert_from, list_call}
 use Rattle.insertion.specs.Look.{cavity_marks, look_refusal, look_unless, look_call, begins_with, marked_refusal, marked_call}

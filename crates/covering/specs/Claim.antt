@@ -4,12 +4,12 @@ use Rattle.geometry.specs.declared.Position.{Position}
 use Rattle.mesh.specs.declared.Mesh.{Mesh}
 use Rattle.mesh.specs.Tables.{Tables}
 use Rattle.mesh.specs.Check.{is_mesh}
-use Rattle.locate.specs.declared.Located.TheVariants.{Refused as NotLocated}
+use Rattle.locate.specs.Locate.{Refused as NotLocated}
 use Rattle.locate.specs.Locate.{locate_call}
 use Rattle.cavity.specs.Answers.{Answers}
-use Rattle.insertion.specs.declared.Inserted.TheVariants.{Refused}
-use Rattle.insertion.specs.declared.Listed.TheVariants.{Stopped, Refused as AllRefused}
-use Rattle.insertion.specs.declared.Looked.TheVariants.{Refused as NotLooked}
+use Rattle.insertion.specs.Inserted.{Refused}
+use Rattle.insertion.specs.Listed.{Stopped, Refused as AllRefused}
+use Rattle.insertion.specs.Looked.{Refused as NotLooked}
 use Rattle.insertion.specs.Insertion.{insert_call}
 use Rattle.insertion.specs.List.{list_call}
 use Rattle.insertion.specs.Look.{look_call, marked_call}

@@ -22,8 +22,7 @@ use corrections_single::{insert, insert_answers};
 use corrections_start::start;
 use gantry_numbers::{
     GantryCorrected, GantryCounted, GantryInserted, GantryListed, GantryLocated, GantryLooked,
-    GantryRead, GantrySphere, GantryStarted, GantryWritten, corrected, counted, inserted, listed,
-    located, looked, read, started, tested, written,
+    GantryRead, GantrySphere, GantryStarted, GantryWritten, inserted, listed,
 };
 use geometry::Position;
 use geometry::volume::volume6;
@@ -57,6 +56,7 @@ pub extern "C" fn gantry_volume6(
     volume6(ax, ay, az, bx, by, bz, cx, cy, cz, dx, dy, dz)
 }
 
+#[tactic(auto, using(gantry_numbers::proofs::Handing::gives_near))]
 #[unsafe(no_mangle)]
 pub extern "C" fn gantry_sphere_test(
     ax: u32,
@@ -78,7 +78,7 @@ pub extern "C" fn gantry_sphere_test(
     ensures value { result ≡ tested_of (sphere_call (position ax ay az) (position bx by bz) (position cx cy cz) (position dx dy dz) (position px py pz)) }
     ensures near { GivesNear (sphere_sum (position ax ay az) (position bx by bz) (position cx cy cz) (position dx dy dz) (position px py pz)) result }
 {
-    let answer = sphere_test(
+    sphere_test(
         Position {
             x: ax,
             y: ay,
@@ -104,8 +104,8 @@ pub extern "C" fn gantry_sphere_test(
             y: py,
             z: pz,
         },
-    );
-    tested(answer)
+    )
+    .into()
 }
 
 #[unsafe(no_mangle)]
@@ -122,7 +122,7 @@ pub extern "C" fn gantry_start(
     ensures { Starts x y z (tables points.old corners.old neighbours.old) work.old corrections.old
         result (tables points.new corners.new neighbours.new) work.new corrections.new }
 {
-    started(start(x, y, z, points, corners, neighbours, work, corrections))
+    start(x, y, z, points, corners, neighbours, work, corrections).into()
 }
 
 #[unsafe(no_mangle)]
@@ -140,7 +140,7 @@ pub extern "C" fn gantry_insert(
     ensures { Inserts mesh (tables points.old corners.old neighbours.old) work.old corrections.old (position x y z) sphere
         result (tables points.new corners.new neighbours.new) work.new corrections.new }
 {
-    let q = Position { x: x, y: y, z: z };
+    let q = Position { x, y, z };
     let answer = insert(mesh, points, corners, neighbours, work, corrections, q);
     inserted(mesh, answer)
 }
@@ -161,7 +161,7 @@ pub extern "C" fn gantry_insert_answers(
     ensures { Inserts mesh (tables points.old corners.old neighbours.old) work.old corrections.old (position x y z) (handed answers.now)
         result (tables points.new corners.new neighbours.new) work.new corrections.new }
 {
-    let q = Position { x: x, y: y, z: z };
+    let q = Position { x, y, z };
     let answer = insert_answers(
         mesh,
         points,
@@ -191,8 +191,8 @@ pub extern "C" fn gantry_look(
     ensures { Looks mesh (tables_before points corners neighbours) work.old corrections.now (position x y z) marks.old
         result (tables_after points corners neighbours) work.new marks.new }
 {
-    let q = Position { x: x, y: y, z: z };
-    let answer = look(
+    let q = Position { x, y, z };
+    look(
         mesh,
         points,
         corners,
@@ -201,8 +201,8 @@ pub extern "C" fn gantry_look(
         corrections,
         marks,
         q,
-    );
-    looked(answer)
+    )
+    .into()
 }
 
 #[unsafe(no_mangle)]
@@ -221,7 +221,7 @@ pub extern "C" fn gantry_insert_marked(
     ensures { InsertsMarked mesh (tables points.old corners.old neighbours.old) work.old corrections.old (position x y z) marks.now
         result (tables points.new corners.new neighbours.new) work.new corrections.new }
 {
-    let q = Position { x: x, y: y, z: z };
+    let q = Position { x, y, z };
     let answer = insert_marked(
         mesh,
         points,
@@ -266,8 +266,8 @@ pub extern "C" fn gantry_locate(
     ensures { Locates mesh (tables_before points corners neighbours) work.old (position x y z)
         result work.new }
 {
-    let q = Position { x: x, y: y, z: z };
-    located(locate(mesh, points, corners, neighbours, work, q))
+    let q = Position { x, y, z };
+    locate(mesh, points, corners, neighbours, work, q).into()
 }
 
 #[unsafe(no_mangle)]
@@ -298,7 +298,7 @@ pub extern "C" fn gantry_drive_cells(
         y: by,
         z: bz,
     };
-    counted(segment_cells(mesh, points, corners, neighbours, work, a, b, cells))
+    segment_cells(mesh, points, corners, neighbours, work, a, b, cells).into()
 }
 
 #[unsafe(no_mangle)]
@@ -316,8 +316,8 @@ pub extern "C" fn gantry_correction(
     ensures { Corrects mesh (tables_before points corners neighbours) work.old corrections.now (position x y z)
         result work.new }
 {
-    let q = Position { x: x, y: y, z: z };
-    corrected(correction(mesh, points, corners, neighbours, work, corrections, q))
+    let q = Position { x, y, z };
+    correction(mesh, points, corners, neighbours, work, corrections, q).into()
 }
 
 #[unsafe(no_mangle)]
@@ -337,8 +337,8 @@ pub extern "C" fn gantry_set_correction(
         × (corrections.new ≡ set_table mesh (tables_before points corners neighbours) corrections.old (length work.old) point record { x = x; y = y; z = z })
         × (work.new ≡ cleared work.old) }
 {
-    let d = Correction { x: x, y: y, z: z };
-    set_correction(
+    let d = Correction { x, y, z };
+    let answer = set_correction(
         mesh,
         points,
         corners,
@@ -347,7 +347,11 @@ pub extern "C" fn gantry_set_correction(
         corrections,
         point,
         d,
-    )
+    );
+    match answer {
+        Ok(()) => 0,
+        Err(refusal) => refusal.number(),
+    }
 }
 
 #[unsafe(no_mangle)]
@@ -368,7 +372,7 @@ pub extern "C" fn gantry_check(
 pub extern "C" fn gantry_read_nodes(file: &[u8], nodes: &mut [u32]) -> GantryRead
     ensures { Reads file.now nodes.old result nodes.new }
 {
-    read(read_nodes(file, nodes))
+    read_nodes(file, nodes).into()
 }
 
 #[unsafe(no_mangle)]
@@ -383,12 +387,12 @@ pub extern "C" fn gantry_write_nodes(
     ensures { Writes mesh (tables_before points corners neighbours) work.old out.old
         result work.new out.new }
 {
-    written(write_nodes(mesh, points, corners, neighbours, work, out))
+    write_nodes(mesh, points, corners, neighbours, work, out).into()
 }
 
 #[unsafe(no_mangle)]
 pub extern "C" fn gantry_merge(first: &[u8], second: &[u8], out: &mut [u8]) -> GantryWritten
     ensures { Merges first.now second.now out.old result out.new }
 {
-    written(merge(first, second, out))
+    merge(first, second, out).into()
 }

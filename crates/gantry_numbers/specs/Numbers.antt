@@ -3,28 +3,28 @@
 use Rattle.std.specs.Prelude.{pos}
 use Rattle.insphere.specs.declared.Sphere.{Sphere}
 use Rattle.insphere.specs.declared.Sphere.TheVariants.{Inside, Outside}
-use Rattle.insphere.specs.declared.Tested.{Tested}
-use Rattle.insphere.specs.declared.Tested.TheVariants.{Answered, Refused as TestRefused}
+use Rattle.insphere.specs.Sphere.{Tested}
+use Rattle.insphere.specs.Sphere.{Answered, Refused as TestRefused}
 use Rattle.insphere.specs.Sphere.{zero_float}
 use Rattle.mesh.specs.declared.Mesh.{Mesh}
-use Rattle.mesh.specs.declared.Started.{Started}
-use Rattle.mesh.specs.declared.Started.TheVariants.{Accepted as StartAccepted, Refused as StartRefused}
-use Rattle.locate.specs.declared.Located.{Located}
-use Rattle.locate.specs.declared.Located.TheVariants.{Cell, Refused as LocateRefused}
-use Rattle.insertion.specs.declared.Inserted.{Inserted}
-use Rattle.insertion.specs.declared.Inserted.TheVariants.{Accepted, Refused}
-use Rattle.insertion.specs.declared.Looked.{Looked}
-use Rattle.insertion.specs.declared.Looked.TheVariants.{Reported, Refused as LookRefused}
-use Rattle.insertion.specs.declared.Listed.{Listed}
-use Rattle.insertion.specs.declared.Listed.TheVariants.{Ended, Stopped, Refused as ListRefused}
-use Rattle.corrections.specs.declared.Corrected.{Corrected}
-use Rattle.corrections.specs.declared.Corrected.TheVariants.{By, Refused as NotCorrected}
-use Rattle.segment.specs.declared.Counted.{Counted}
-use Rattle.segment.specs.declared.Counted.TheVariants.{Count, Refused as NotCounted}
-use Rattle.nodefile.specs.declared.Read.{Read}
-use Rattle.nodefile.specs.declared.Read.TheVariants.{Nodes, Refused as ReadRefused}
-use Rattle.nodefile.specs.declared.Written.{Written}
-use Rattle.nodefile.specs.declared.Written.TheVariants.{Bytes, Refused as WriteRefused}
+use Rattle.mesh.specs.Start.{Started}
+use Rattle.mesh.specs.Start.{Accepted as StartAccepted, Refused as StartRefused}
+use Rattle.locate.specs.Locate.{Located}
+use Rattle.locate.specs.Locate.{Cell, Refused as LocateRefused}
+use Rattle.insertion.specs.Inserted.{Inserted}
+use Rattle.insertion.specs.Inserted.{Accepted, Refused}
+use Rattle.insertion.specs.Looked.{Looked}
+use Rattle.insertion.specs.Looked.{Reported, Refused as LookRefused}
+use Rattle.insertion.specs.Listed.{Listed}
+use Rattle.insertion.specs.Listed.{Ended, Stopped, Refused as ListRefused}
+use Rattle.corrections.specs.Corrections.{Corrected}
+use Rattle.corrections.specs.Corrections.{By, Refused as NotCorrected}
+use Rattle.segment.specs.Call.{Counted}
+use Rattle.segment.specs.Call.{Count, Refused as NotCounted}
+use Rattle.nodefile.specs.Read.{Read}
+use Rattle.nodefile.specs.Read.{Nodes, Refused as ReadRefused}
+use Rattle.nodefile.specs.Write.{Written}
+use Rattle.nodefile.specs.Write.{Bytes, Refused as WriteRefused}
 use Rattle.gantry_numbers.specs.declared.GantryStarted.{GantryStarted}
 use Rattle.gantry_numbers.specs.declared.GantryInserted.{GantryInserted}
 use Rattle.gantry_numbers.specs.declared.GantryLooked.{GantryLooked}

@@ -25,9 +25,9 @@ use Rattle.star.specs.Star.{used_after, head_of, chain_after, star}
 use Rattle.star.specs.Inner.{Slotted, Supply, Replacing}
 use Rattle.star.proofs.Inserting.{room_is}
 use Rattle.star.proofs.Taking.{chain_small}
-use Rattle.insertion.specs.declared.Found.{Found}
-use Rattle.insertion.specs.declared.Inserted.{Inserted}
-use Rattle.insertion.specs.declared.Inserted.TheVariants.{Accepted, Refused}
+use Rattle.insertion.specs.Inner.{Found}
+use Rattle.insertion.specs.Inserted.{Inserted}
+use Rattle.insertion.specs.Inserted.{Accepted, Refused}
 use Rattle.insertion.specs.Insertion.{first_cavity, last_cavity, cells_made, node_refusal, report_of, inserted_mesh, inserted_tables}
 use Rattle.insertion.specs.Look.{marks_of, cavity_marks, begins_with}
 use Rattle.insertion.specs.Inner.{Scratch, NodeOf, Admitted, Starable, Tested, Starred, report_with, accepted_with, state_marks, marks_allow, refusal_with, AttemptLeaves}

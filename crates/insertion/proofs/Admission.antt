@@ -36,7 +36,7 @@ use Rattle.cavity.specs.Inner.Growth.{Unstamped}
 use Rattle.cavity.proofs.Correction.{base_at, corrected_star_shaped}
 use Rattle.star.specs.Star.{made_count}
 use Rattle.star.specs.Inner.{Ranked, Rising}
-use Rattle.insertion.specs.declared.Found.{Found}
+use Rattle.insertion.specs.Inner.{Found}
 use Rattle.insertion.specs.Insertion.{last_cavity, cells_made, node_refusal}
 use Rattle.insertion.specs.Inner.{some_zero, star_found, PointTests, NodeOf, Admitted, Tested}
 use Rattle.insertion.proofs.Refusals.{is_outside, is_taken, is_points_full, is_unheld, is_cells_full, is_accepted}

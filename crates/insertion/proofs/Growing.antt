@@ -27,7 +27,7 @@ use Rattle.star.proofs.Star.{Fits, is_star}
 use Rattle.star.proofs.Freeing.{falling}
 use Rattle.star.proofs.Inserting.{Stored, room_is, valid_insertion}
 use Rattle.insertion.specs.declared.Report.{Report}
-use Rattle.insertion.specs.declared.Inserted.TheVariants.{Accepted}
+use Rattle.insertion.specs.Inserted.{Accepted}
 use Rattle.insertion.specs.Insertion.{last_cavity, cells_made, node_refusal, inserted_mesh, inserted_tables, insert_node}
 use Rattle.insertion.proofs.Refusals.{NodeFits, node_fits, accepted_node_lem}
 

@@ -20,9 +20,9 @@ use Rattle.mesh.specs.Start.{over}
 use Rattle.cavity.specs.declared.Node.{Node}
 use Rattle.cavity.specs.Answers.{sphere, answers_of}
 use Rattle.cavity.specs.Inner.{inside}
-use Rattle.insertion.specs.declared.Found.{Found}
+use Rattle.insertion.specs.Inner.{Found}
 use Rattle.insertion.specs.declared.Report.{Report}
-use Rattle.insertion.specs.declared.Looked.TheVariants.{Reported, Refused as LookRefused}
+use Rattle.insertion.specs.Looked.{Reported, Refused as LookRefused}
 use Rattle.insertion.specs.Insertion.{node_refusal, insert_refusal, report_of}
 use Rattle.insertion.specs.Look.{marks_of, cavity_marks, look_refusal, look_unless, look_call, begins_with}
 use Rattle.insertion.specs.Inner.{Starable, Tested, report_with, state_marks, marks_allow, NodeLooked}

@@ -24,7 +24,7 @@ use Rattle.mesh.proofs.Checked.{same_position_yes}
 use Rattle.locate.specs.Locate.{holds}
 use Rattle.cavity.specs.Answers.{Answers}
 use Rattle.insertion.specs.declared.Report.{Report}
-use Rattle.insertion.specs.declared.Inserted.TheVariants.{Accepted, Refused}
+use Rattle.insertion.specs.Inserted.{Accepted, Refused}
 use Rattle.insertion.specs.Insertion.{cells_made, node_refusal, fewer_bytes, first_of, insert_refusal, report_of, inserted_mesh, inserted_tables, insert_unless, insert_node, insert_call}
 use Rattle.insertion.specs.Look.{cavity_marks, look_refusal, begins_with, marked_refusal}
 

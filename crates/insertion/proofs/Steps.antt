@@ -10,8 +10,8 @@ use Rattle.mesh.specs.Tables.{Tables}
 use Rattle.mesh.specs.Refusal.{mesh_refusal}
 use Rattle.cavity.specs.Answers.{sphere}
 use Rattle.insertion.specs.declared.Report.{Report}
-use Rattle.insertion.specs.declared.Inserted.TheVariants.{Accepted, Refused}
-use Rattle.insertion.specs.declared.Listed.TheVariants.{Stopped, Refused as AllRefused}
+use Rattle.insertion.specs.Inserted.{Accepted, Refused}
+use Rattle.insertion.specs.Listed.{Stopped, Refused as AllRefused}
 use Rattle.insertion.specs.Insertion.{insert_node}
 use Rattle.insertion.specs.List.{listed_node, listed_count, insert_from, list_call}
 

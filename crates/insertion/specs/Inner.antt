@@ -1,5 +1,9 @@
 -- What the inner functions of an insertion ask and leave.
-use Rattle.std.specs.Prelude.{ℕ, ◌+◌, ◌-◌, ◌≤◌, Bool, true, false, not, cond, ◌||◌, List, ◌≢◌, ◌≡◌, ltb, eqb, length, get_or}
+use Rattle.std.specs.Prelude.{Ok, Err, ℕ, ◌+◌, ◌-◌, ◌≤◌, Bool, true, false, not, cond, ◌||◌, List, ◌≢◌, ◌≡◌, ltb, eqb, length, get_or}
+use Rattle.std.specs.Prelude as Rust
+use Rattle.refusal.specs.declared.Refusal.{Refusal}
+use Rattle.refusal.specs.Refusal.{refusal_number, refused_by}
+use Rattle.insphere.specs.Sphere.{zero_float}
 use Rattle.arith.specs.Table.{any_below}
 use Rattle.geometry.specs.declared.Position.{Position}
 use Rattle.geometry.specs.Volume.{in_box, same_position}
@@ -13,14 +17,40 @@ use Rattle.cavity.specs.Inner.{inside, set_of, CavityFound}
 use Rattle.cavity.specs.Inner.Growth.{Empty, Unstamped}
 use Rattle.star.specs.Star.{made_count}
 use Rattle.star.specs.Inner.{Ranked, Rising}
-use Rattle.insertion.specs.declared.Found.{Found}
 use Rattle.insertion.specs.declared.Report.{Report}
-use Rattle.insertion.specs.declared.Attempt.{Attempt}
-use Rattle.insertion.specs.declared.Inserted.{Inserted}
-use Rattle.insertion.specs.declared.Inserted.TheVariants.{Accepted}
-use Rattle.insertion.specs.declared.Looked.{Looked}
+use Rattle.insertion.specs.declared.Insertion.{Insertion}
+use Rattle.insertion.specs.declared.Replacement.{Replacement}
+use Rattle.insertion.specs.Inserted.{Inserted, Accepted, as_inserted}
+use Rattle.insertion.specs.Looked.{Looked}
 use Rattle.insertion.specs.Insertion.{Result, node_refusal, report_of, inserted_mesh, inserted_tables, insert_unless}
 use Rattle.insertion.specs.Look.{marks_of, look_refusal, LookResult, look_unless, begins_with, marked_refusal}
+
+-- ---- the outcomes of tests
+
+-- what tests 4 to 8 found: the refusal's number, 0 where there is none, the cavity's extent, and how many cells its star makes
+pub record Found : Type 0 where
+  pub refusal : ℕ
+  pub extent : Extent
+  pub made : ℕ
+
+-- of a node that they let pass
+abbrev pub found_of : Replacement → Found
+found_of r = record { refusal = 0; extent = r.extent; made = r.made }
+
+abbrev pub as_found : Rust.Result Replacement Refusal → Found
+as_found (Ok r) = found_of r
+as_found (Err e) =
+    record { refusal = refusal_number e; extent = record { before = 0; after = 0; least = zero_float; holder = 0 }; made = 0 }
+
+-- a node's answer, with its refusal's number beside it, 0 where there is none
+pub record Attempt : Type 0 where
+  pub refusal : ℕ
+  pub inserted : Inserted
+
+abbrev pub as_attempt : Rust.Result Insertion Refusal → Attempt
+as_attempt r = record { refusal = refused_by r; inserted = as_inserted r }
+
+-- ---- a node
 
 -- what is lent to a node for its own use: states that are all 0, notes below its stamp, and room for the rest, which may hold anything
 pub record Scratch (stamp : ℕ) (st li fa de ex nu : List ℕ) : Type 0 where

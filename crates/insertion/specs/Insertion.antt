@@ -12,8 +12,8 @@ use Rattle.cavity.specs.Answers.{Answers, sphere, handed, says_yes, report_t, le
 use Rattle.cavity.specs.Cavity.{cavity_of, corrected_cavity, cavity_size}
 use Rattle.star.specs.Star.{made_count, used_after, chain_after, star}
 use Rattle.insertion.specs.declared.Report.{Report}
-use Rattle.insertion.specs.declared.Inserted.{Inserted}
-use Rattle.insertion.specs.declared.Inserted.TheVariants.{Accepted, Refused}
+use Rattle.insertion.specs.Inserted.{Inserted}
+use Rattle.insertion.specs.Inserted.{Accepted, Refused}
 
 -- the cavity of p before correction
 unfoldable pub first_cavity : Mesh → Tables → Position → Answers → List Bool

@@ -1,3 +1,6 @@
+pub mod Inserted
+pub mod Listed
+pub mod Looked
 pub mod Insertion
 pub mod List
 pub mod Look

@@ -5,9 +5,9 @@ use Rattle.mesh.specs.declared.Mesh.{Mesh}
 use Rattle.mesh.specs.Tables.{Tables, cleared, point_in}
 use Rattle.mesh.specs.Refusal.{mesh_refusal}
 use Rattle.cavity.specs.Answers.{sphere}
-use Rattle.insertion.specs.declared.Inserted.TheVariants.{Accepted, Refused}
-use Rattle.insertion.specs.declared.Listed.{Listed}
-use Rattle.insertion.specs.declared.Listed.TheVariants.{Ended, Stopped, Refused as AllRefused}
+use Rattle.insertion.specs.Inserted.{Accepted, Refused}
+use Rattle.insertion.specs.Listed.{Listed}
+use Rattle.insertion.specs.Listed.{Ended, Stopped, Refused as AllRefused}
 use Rattle.insertion.specs.Insertion.{Result, insert_node}
 
 -- node i of a list of numbers: three a node, as in a point table

@@ -7,9 +7,9 @@ use Rattle.mesh.specs.Tables.{Tables}
 use Rattle.mesh.specs.Start.{over}
 use Rattle.cavity.specs.Answers.{Answers, sphere}
 use Rattle.cavity.specs.Cavity.{in_set}
-use Rattle.insertion.specs.declared.Inserted.{Inserted}
-use Rattle.insertion.specs.declared.Looked.{Looked}
-use Rattle.insertion.specs.declared.Looked.TheVariants.{Reported, Refused}
+use Rattle.insertion.specs.Inserted.{Inserted}
+use Rattle.insertion.specs.Looked.{Looked}
+use Rattle.insertion.specs.Looked.{Reported, Refused}
 use Rattle.insertion.specs.Insertion.{Result, last_cavity, first_of, insert_refusal, report_of, insert_unless}
 
 -- a byte for each of n entries

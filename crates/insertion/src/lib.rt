@@ -4,6 +4,7 @@
 
 use cavity::Extent;
 use mesh::Mesh;
+use refusal::Refusal;
 
 // Point number, cavity size before and after correction, cells made, and the least T over the cavity before correction.
 #[derive(Clone, Copy)]
@@ -15,40 +16,24 @@ pub struct Report {
     pub least: f64,
 }
 
-// The record with the node and the report, or the refusal's number.
+// The record with the node, and the report.
 #[derive(Clone, Copy)]
-pub enum Inserted {
-    Accepted(Mesh, Report),
-    Refused(u8),
+pub struct Insertion {
+    pub mesh: Mesh,
+    pub report: Report,
 }
 
-// The record and how many nodes went in; the record as the last accepted node left it, the place of the refused node and its
-// number; or the number that refuses the whole list.
+// The record after a list of nodes, how many went in, and why the next one did not, where the list stopped.
 #[derive(Clone, Copy)]
-pub enum Listed {
-    Ended(Mesh, u32),
-    Stopped(Mesh, u32, u8),
-    Refused(u8),
+pub struct Insertions {
+    pub mesh: Mesh,
+    pub accepted: u32,
+    pub stopped: Option<Refusal>,
 }
 
-// The report of the insertion that was looked at, or the refusal's number.
+// What takes place where tests 4 to 8 let a node pass: the extent of its cavity, and how many cells its star makes.
 #[derive(Clone, Copy)]
-pub enum Looked {
-    Reported(Report),
-    Refused(u8),
-}
-
-// What tests 4 to 8 found: the refusal's number, 0 where there is none, the cavity's extent, and how many cells its star makes.
-#[derive(Clone, Copy)]
-pub struct Found {
-    pub refusal: u8,
+pub struct Replacement {
     pub extent: Extent,
     pub made: usize,
-}
-
-// A node's answer, with its refusal's number beside it, 0 where there is none.
-#[derive(Clone, Copy)]
-pub struct Attempt {
-    pub refusal: u8,
-    pub inserted: Inserted,
 }

@@ -3,14 +3,15 @@
 #![tactic(auto)]
 
 ghost use Rattle.mesh.specs.Tables.{tables_in, tables_before};
-ghost use Rattle.insertion.specs.Inner.{Scratch, NodeOf, Tested};
+ghost use Rattle.insertion.specs.Inner.{as_found, Scratch, NodeOf, Tested};
 
-use cavity::{Extent, Node};
+use cavity::Node;
 use cavity_find::find_cavity;
-use insertion::Found;
+use insertion::Replacement;
 use insertion_tests::{point_tests, star_room};
 use locate_holding::side_codes;
 use mesh::Mesh;
+use refusal::Refusal;
 
 // Tests 4 to 8. Where none refuses, the node's cavity is found, its cells listed by rising numbers, and the cells of its star ranked.
 pub fn find(
@@ -26,36 +27,19 @@ pub fn find(
     denied: &mut [u16],
     exposed: &mut [u8],
     ranks: &mut [u16],
-) -> Found
+) -> Result<Replacement, Refusal>
     requires { NodeOf mesh (tables_in points corners neighbours) answers.now node
         × Scratch mesh.points state.old list.old faces.old denied.old exposed.old ranks.old }
     ensures { Tested mesh (tables_before points corners neighbours) answers.now node
-        state.new list.new faces.new denied.new ranks.new result }
+        state.new list.new faces.new denied.new ranks.new (as_found result) }
 {
-    let q = node.position;
-    let codes = side_codes(points, node.points, q);
-    let refusal = point_tests(mesh, points, &codes, q);
-    if refusal != 0 {
-        return Found {
-            refusal: refusal,
-            extent: Extent {
-                before: 0,
-                after: 0,
-                least: 0.0,
-                holder: 0,
-            },
-            made: 0,
-        };
-    }
+    let codes = side_codes(points, node.points, node.position);
+    point_tests(mesh, points, &codes, node.position)?;
     let extent = find_cavity(
         points, corners, neighbours, answers, node, &codes, state, list, faces, denied, exposed,
     );
     if extent.before == 0 {
-        return Found {
-            refusal: 7,
-            extent: extent,
-            made: 0,
-        };
+        return Err(Refusal::Unheld);
     }
     star_room(
         points, corners, neighbours, node, extent, state, list, faces, ranks,

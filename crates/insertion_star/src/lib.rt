@@ -2,15 +2,16 @@
 
 #![tactic(auto)]
 
-ghost use Rattle.std.specs.Prelude.{List, ◌≡◌, ℕ, length};
+ghost use Rattle.std.specs.Prelude.{Ok, List, ◌≡◌, ℕ, length};
 ghost use Rattle.mesh.specs.Tables.{tables};
 ghost use Rattle.cavity.specs.Answers.{answers_of};
 ghost use Rattle.cavity.specs.Inner.Growth.{Empty};
-ghost use Rattle.insertion.specs.Inner.{Starable, SomeStarable, Starred};
+ghost use Rattle.insertion.specs.Inserted.{as_inserted};
+ghost use Rattle.insertion.specs.Inner.{found_of, Starable, SomeStarable, Starred};
 
 use cavity::Node;
 use cavity_find::clear_states;
-use insertion::{Found, Inserted};
+use insertion::{Insertion, Replacement};
 use insertion_report::accepted;
 use mesh::Mesh;
 use star_numbers::take_slots;
@@ -23,23 +24,29 @@ pub fn insert_found(
     corners: &mut [u16],
     neighbours: &mut [u16],
     node: Node,
-    found: Found,
+    replacement: Replacement,
     state: &mut [u8],
     list: &[u16],
     faces: &[u8],
     ranks: &[u16],
     slots: &mut [u16],
-) -> Inserted
-    requires { SomeStarable mesh (tables points.old corners.old neighbours.old) node state.old list.now faces.now ranks.now found × (length slots.old ≡ 4096) }
-    ensures { ((bytes : List ℕ) → Starable mesh (tables points.old corners.old neighbours.old) bytes node state.old list.now faces.now ranks.now found →
-        Starred mesh (tables points.old corners.old neighbours.old) node.position (answers_of node.handed bytes) result (tables points.new corners.new neighbours.new))
+) -> Insertion
+    requires { SomeStarable mesh (tables points.old corners.old neighbours.old) node state.old list.now faces.now ranks.now (found_of replacement) × (length slots.old ≡ 4096) }
+    ensures { ((bytes : List ℕ) → Starable mesh (tables points.old corners.old neighbours.old) bytes node state.old list.now faces.now ranks.now (found_of replacement) →
+        Starred mesh (tables points.old corners.old neighbours.old) node.position (answers_of node.handed bytes) (as_inserted (Ok result)) (tables points.new corners.new neighbours.new))
         × Empty state.new list.now }
 {
-    let size = found.extent.after;
-    let left = take_slots(neighbours, mesh.chain as u16, node.used, found.made, slots);
+    let size = replacement.extent.after;
+    let left = take_slots(
+        neighbours,
+        mesh.chain as u16,
+        node.used,
+        replacement.made,
+        slots,
+    );
     let chain = replace_cavity(
         points, corners, neighbours, node, state, list, size, faces, ranks, slots, left.chain,
     );
     clear_states(list, size, state);
-    accepted(mesh, found, chain, left.used)
+    accepted(mesh, replacement, chain, left.used)
 }

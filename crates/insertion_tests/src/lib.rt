@@ -2,19 +2,21 @@
 
 #![tactic(auto)]
 
-ghost use Rattle.std.specs.Prelude.{◌≡◌, ℕ, ◌≤◌, List, length};
+ghost use Rattle.std.specs.Prelude.{IfOk, ◌≡◌, ℕ, ◌≤◌, List, length};
+ghost use Rattle.refusal.specs.Refusal.{refused_by};
 ghost use Rattle.mesh.specs.Tables.{tables, tables_in, tables_before};
 ghost use Rattle.locate.specs.Inner.{side_codes};
 ghost use Rattle.cavity.specs.Inner.{set_of, Enumerated, Inspected};
 ghost use Rattle.star.specs.Inner.{Ranked, Rising};
-ghost use Rattle.insertion.specs.Inner.{some_zero, PointTests, star_found};
+ghost use Rattle.insertion.specs.Inner.{some_zero, found_of, PointTests, star_found};
 
 use cavity::{Extent, Node};
 use geometry::Position;
 use geometry::volume::in_box;
-use insertion::Found;
+use insertion::Replacement;
 use mesh::Mesh;
 use mesh_sizes::{cell_capacity, point_capacity};
+use refusal::Refusal;
 use star_numbers::{rank_cells, sort_cells};
 
 // A point has code 0 just where it lies at the node.
@@ -22,32 +24,24 @@ pub fn some_zero(codes: &[u8], np: usize) -> bool
     requires { np ≤ length codes.now }
     ensures { result ≡ some_zero codes.now np }
 {
-    let mut k: usize = 0;
-    while k < np {
-        if codes[k] == 0 {
-            return true;
-        }
-        k += 1;
-    }
-    false
+    codes[..np].contains(&0)
 }
 
-// Tests 4 to 6: the refusal's number, 0 where there is none.
-pub fn point_tests(mesh: Mesh, points: &[u32], codes: &[u8], q: Position) -> u8
+// Tests 4 to 6.
+pub fn point_tests(mesh: Mesh, points: &[u32], codes: &[u8], q: Position) -> Result<(), Refusal>
     requires { (mesh.points ≤ 1024) × (codes.now ≡ side_codes points.now mesh.points q) }
-    ensures { (cs ns : List ℕ) → PointTests mesh (tables points.now cs ns) q result }
+    ensures { (cs ns : List ℕ) → PointTests mesh (tables points.now cs ns) q (refused_by result) }
 {
-    if !in_box(mesh.x, mesh.y, mesh.z, q) {
-        return 4;
-    }
     let np = mesh.points as usize;
-    if some_zero(codes, np) {
-        return 5;
+    if !in_box(mesh.x, mesh.y, mesh.z, q) {
+        Err(Refusal::Outside)
+    } else if some_zero(codes, np) {
+        Err(Refusal::Taken)
+    } else if np == point_capacity(points.len()) {
+        Err(Refusal::PointsFull)
+    } else {
+        Ok(())
     }
-    if np == point_capacity(points.len()) {
-        return 6;
-    }
-    0
 }
 
 // Test 8. The cavity's cells are listed by rising numbers, and the new cells ranked by them.
@@ -61,28 +55,22 @@ pub fn star_room(
     list: &mut [u16],
     faces: &[u8],
     ranks: &mut [u16],
-) -> Found
+) -> Result<Replacement, Refusal>
     requires { (node.cells ≤ 4096) × (node.used ≤ 4096) × (length faces.now ≡ 4096) × (length ranks.old ≡ 4096)
         × Enumerated (tables_in points corners neighbours) node.used state.now list.old extent.after
         × Inspected (tables_in points corners neighbours) node.used node.position (set_of node.used state.now) state.now faces.now }
-    ensures { (result ≡ star_found (tables_before points corners neighbours) node (set_of node.used state.now) extent)
+    ensures { (refused_by result ≡ (star_found (tables_before points corners neighbours) node (set_of node.used state.now) extent).refusal)
+        × IfOk result (λ r. found_of r ≡ star_found (tables_before points corners neighbours) node (set_of node.used state.now) extent)
         × Enumerated (tables_before points corners neighbours) node.used state.now list.new extent.after
         × Rising node.used (set_of node.used state.now) list.new extent.after
         × Ranked (tables_before points corners neighbours) node.used node.position (set_of node.used state.now) ranks.new }
 {
-    let size = extent.after;
-    sort_cells(list, size);
-    let made = rank_cells(list, size, faces, ranks);
-    if cell_capacity(corners.len(), neighbours.len(), node.work) < node.cells + made {
-        return Found {
-            refusal: 8,
-            extent: extent,
-            made: made,
-        };
-    }
-    Found {
-        refusal: 0,
-        extent: extent,
-        made: made,
+    sort_cells(list, extent.after);
+    let made = rank_cells(list, extent.after, faces, ranks);
+    let capacity = cell_capacity(corners.len(), neighbours.len(), node.work);
+    if capacity < node.cells + made {
+        Err(Refusal::CellsFull)
+    } else {
+        Ok(Replacement { extent, made })
     }
 }

@@ -5,10 +5,10 @@ use mathlib.Core.List.{[], ◌∷◌}
 use mathlib.Core.Logic.{◌⊎◌, inl, inr}
 use mathlib.Core.Path.{◌≡◌, refl, subst}
 use native.Mathlib.Omega.{arith}
-use lib.Dec.{T, le→leb, lt→ltb, lit≤}
-use lib.IntN.{ℤ, pos, negsuc, nat_abs}
+use lib.Dec.{lit≤}
+use lib.IntN.{pos, nat_abs}
 use lib.Signed.{lt_z}
-use lib.Ieee.{Float, lt, binary64, in_float}
+use lib.Ieee.{Float, lt}
 use Rattle.arith.proofs.Order.{<-irrefl, <-trans, lt_z_true, lt_lt_z}
 use Rattle.arith.proofs.Flags.{split, holds, fails, and_left, and_right}
 use Rattle.arith.proofs.Magnitude.{fits}
@@ -24,17 +24,11 @@ use Rattle.geometry.proofs.Distances.{distance_nonneg}
 use Rattle.geometry.proofs.Ranges.{box_in, corners_in}
 use Rattle.insphere.specs.declared.Sphere.{Sphere}
 use Rattle.insphere.specs.declared.Sphere.TheVariants.{Inside, Outside}
-use Rattle.insphere.specs.declared.Tested.TheVariants.{Answered}
+use Rattle.insphere.specs.Sphere.{Answered}
 use Rattle.insphere.specs.declared.Term.{Term}
 use Rattle.insphere.specs.declared.Terms.{Terms}
 use Rattle.insphere.specs.Sphere.{sphere_sum, sphere_t, sphere_answer, sphere_refusal, CarriesNear}
 use Rattle.insphere.specs.Inner.{TermInRange, TermsInRange, terms_at, exact_sum, float_sum, limit, low_limit}
-
--- an integer of at most 2^53 becomes a float without loss
-pub in_float_lem : (z : ℤ) → nat_abs z ≤ 2 ^ 53 → T (in_float binary64 z)
-unfolding in_float
-in_float_lem (pos n) h = le→leb n (2 ^ 53) h
-in_float_lem (negsuc n) h = lt→ltb n (2 ^ 53) h
 
 -- ---- the terms
 

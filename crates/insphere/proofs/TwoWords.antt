@@ -27,7 +27,7 @@ units x = ap pos (two x)
     two x = omega arith
 
 -- 2^52 makes a volume at least 0
-pub raised_nonneg : (v : ℤ) → nat_abs v ≤ 2 ^ 52 → pos 0 ≤ℤ (v +ℤ pos (2 ^ 52))
+raised_nonneg : (v : ℤ) → nat_abs v ≤ 2 ^ 52 → pos 0 ≤ℤ (v +ℤ pos (2 ^ 52))
 raised_nonneg v h = omega (arithℤ, parts_add v (pos (2 ^ 52)), abs_parts v)
 
 parted_value : (v : ℤ) → nat_abs v ≤ 2 ^ 52 → value_of (parted v) ≡ v

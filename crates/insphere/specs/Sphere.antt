@@ -1,14 +1,14 @@
 -- The sphere test: document 01, 'The sphere test', as document 02 §2 amends it.
-use Rattle.std.specs.Prelude.{ℕ, false, not, ◌&&◌, cond, eqb, ℤ, pos, ◌+ℤ◌, ◌*ℤ◌, Float}
+use Rattle.std.specs.Prelude.{ℕ, false, not, ◌&&◌, cond, eqb, ℤ, pos, ◌+ℤ◌, ◌*ℤ◌, Float, Result, Ok, Err}
 use Rattle.std.specs.Int.Signed.{lt_z}
 use Rattle.std.specs.Float.{fin, binary64}
 use Rattle.std.specs.Float.Ieee.{add, mul, of_int}
+use Rattle.refusal.specs.declared.Refusal.{Refusal}
+use Rattle.refusal.specs.Refusal.{refusal_number}
 use Rattle.rounding.specs.Whole.{Near}
 use Rattle.geometry.specs.declared.Position.{Position}
 use Rattle.insphere.specs.declared.Sphere.{Sphere}
 use Rattle.insphere.specs.declared.Sphere.TheVariants.{Inside, Outside}
-use Rattle.insphere.specs.declared.Tested.{Tested}
-use Rattle.insphere.specs.declared.Tested.TheVariants.{Answered, Refused}
 use Rattle.geometry.specs.Volume.{in_range, corners_in_range, volume6, squared_distance}
 
 -- E, the 'sum of v_i × L_i', where v_i is the six-fold volume with corner i replaced by p
@@ -45,6 +45,15 @@ sphere_answer a b c d p = let t = sphere_t a b c d p in cond (lt_z (pos 0) (sphe
 unfoldable pub sphere_refusal : Position → Position → Position → Position → Position → ℕ
 sphere_refusal a b c d p =
     cond (not (corners_in_range a b c d && in_range p)) 4 (cond (not (lt_z (pos 0) (volume6 a b c d))) 11 0)
+
+-- what the sphere test answers as a call: the sphere answer, or the refusal's number
+pub data Tested : Type 0 where
+  Answered : Sphere → Tested
+  Refused : ℕ → Tested
+
+abbrev pub as_tested : Result Sphere Refusal → Tested
+as_tested (Ok s) = Answered s
+as_tested (Err e) = Refused (refusal_number e)
 
 -- 'As a call it takes the four corners and P as five positions.'
 unfoldable pub sphere_call : Position → Position → Position → Position → Position → Tested

@@ -6,15 +6,23 @@ ghost use Rattle.insphere.specs.Inner.{TermInRange, TermsInRange, exact_sum, par
 
 use crate::{Term, Terms, Words};
 
-// A volume in words. It is not below -2^52, which is 2^25 units.
+// What one of a high word is worth.
+const UNIT: u64 = 1 << 27;
+
+// A volume is not below -OFFSET, which is OFFSET_UNITS units.
+const OFFSET: i64 = 1 << 52;
+
+const OFFSET_UNITS: i64 = 1 << 25;
+
+// A volume in words.
 fn part(v: i64) -> Words
     requires { nat_abs v ≤ 2 ^ 52 }
     ensures { result ≡ parted v }
 {
-    let u = (v + 4503599627370496) as u64;
+    let u = (v + OFFSET) as u64;
     Words {
-        high: (u / 134217728) as i64 - 33554432,
-        low: u % 134217728,
+        high: (u / UNIT) as i64 - OFFSET_UNITS,
+        low: u % UNIT,
     }
 }
 
@@ -24,11 +32,10 @@ fn multiply(x: Term) -> Words
     ensures { result ≡ term_words x }
 {
     let w = part(x.volume);
-    let l = x.distance;
-    let low = w.low * (l as u64);
+    let low = w.low * (x.distance as u64);
     Words {
-        high: w.high * l + (low / 134217728) as i64,
-        low: low % 134217728,
+        high: w.high * x.distance + (low / UNIT) as i64,
+        low: low % UNIT,
     }
 }
 
@@ -39,8 +46,8 @@ fn add(a: Words, b: Words, c: Words, d: Words) -> Words
 {
     let low = a.low + b.low + c.low + d.low;
     Words {
-        high: a.high + b.high + c.high + d.high + (low / 134217728) as i64,
-        low: low % 134217728,
+        high: a.high + b.high + c.high + d.high + (low / UNIT) as i64,
+        low: low % UNIT,
     }
 }
 
@@ -49,13 +56,15 @@ pub fn is_sum_positive(x: Terms) -> bool
     requires { TermsInRange x }
     ensures { result ≡ lt_z (pos 0) (exact_sum x) }
 {
-    let t0 = x.t0;
-    let t1 = x.t1;
-    let t2 = x.t2;
-    let t3 = x.t3;
-    let w = add(multiply(t0), multiply(t1), multiply(t2), multiply(t3));
-    if w.high != 0 {
-        return 0 < w.high;
+    let sum = add(
+        multiply(x.t0),
+        multiply(x.t1),
+        multiply(x.t2),
+        multiply(x.t3),
+    );
+    if sum.high == 0 {
+        sum.low > 0
+    } else {
+        sum.high > 0
     }
-    0 < w.low
 }

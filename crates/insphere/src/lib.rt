@@ -6,6 +6,7 @@ ghost use Rattle.std.specs.Prelude.{◌≡◌, pos};
 ghost use Rattle.std.specs.Int.Signed.{lt_z};
 ghost use Rattle.geometry.specs.Volume.{InRange};
 ghost use Rattle.geometry.specs.Inner.{CornersInRange};
+ghost use Rattle.refusal.specs.Refusal.{refused_by};
 ghost use Rattle.insphere.specs.Inner.{TermInRange, TermsInRange, terms_at, exact_sum, float_sum};
 ghost use Rattle.insphere.specs.Sphere as spec;
 
@@ -13,21 +14,18 @@ use crate::exact::is_sum_positive;
 use geometry::distance::squared_distance;
 use geometry::volume::{corners_in_range, in_range, volume, volumes_at};
 use geometry::{Position, Tetrahedron};
+use refusal::Refusal;
 
 mod exact;
+
+// 2^39: T lies within it of E.
+const LIMIT: f64 = 549755813888.0;
 
 // The sphere answer, which carries the float T.
 #[derive(Clone, Copy)]
 pub enum Sphere {
     Inside(f64),
     Outside(f64),
-}
-
-// What the sphere test answers as a call: the sphere answer, or the refusal's number.
-#[derive(Clone, Copy)]
-pub enum Tested {
-    Answered(Sphere),
-    Refused(u8),
 }
 
 // A term of E: a volume and a squared distance, to be multiplied.
@@ -57,31 +55,23 @@ fn terms_at(t: Tetrahedron, p: Position) -> Terms
     requires { CornersInRange t × InRange p }
     ensures { result ≡ terms_at t p }
 {
-    let a = t.a;
-    let b = t.b;
-    let c = t.c;
-    let d = t.d;
     let v = volumes_at(t, p);
-    let v0 = v.v0;
-    let v1 = v.v1;
-    let v2 = v.v2;
-    let v3 = v.v3;
     Terms {
         t0: Term {
-            volume: v0,
-            distance: squared_distance(a, p),
+            volume: v.v0,
+            distance: squared_distance(t.a, p),
         },
         t1: Term {
-            volume: v1,
-            distance: squared_distance(b, p),
+            volume: v.v1,
+            distance: squared_distance(t.b, p),
         },
         t2: Term {
-            volume: v2,
-            distance: squared_distance(c, p),
+            volume: v.v2,
+            distance: squared_distance(t.c, p),
         },
         t3: Term {
-            volume: v3,
-            distance: squared_distance(d, p),
+            volume: v.v3,
+            distance: squared_distance(t.d, p),
         },
     }
 }
@@ -91,33 +81,30 @@ fn product(x: Term) -> f64
     requires { TermInRange x }
     ensures { result ≡ spec.product x.volume x.distance }
 {
-    (x.volume as f64) * (x.distance as f64)
+    x.volume as f64 * x.distance as f64
 }
 
-// T
+// T: from the left, one rounding at each sum.
+#[tactic(auto, unfolding(crate::specs::Inner::float_sum))]
 fn float_sum(x: Terms) -> f64
     requires { TermsInRange x }
     ensures { result ≡ float_sum x }
 {
-    let t0 = x.t0;
-    let t1 = x.t1;
-    let t2 = x.t2;
-    let t3 = x.t3;
-    ((product(t0) + product(t1)) + product(t2)) + product(t3)
+    product(x.t0) + product(x.t1) + product(x.t2) + product(x.t3)
 }
 
-// Whether E is above 0. Beyond ±2^39 the float tells its sign; else the exact sum is worked out.
+// Whether E is above 0. Beyond the limit the float tells its sign; else the exact sum is worked out.
 fn is_inside(x: Terms, t: f64) -> bool
     requires { TermsInRange x × (t ≡ float_sum x) }
     ensures { result ≡ lt_z (pos 0) (exact_sum x) }
 {
-    if 549755813888.0 < t {
-        return true;
+    if t > LIMIT {
+        true
+    } else if t < -LIMIT {
+        false
+    } else {
+        is_sum_positive(x)
     }
-    if t < -549755813888.0 {
-        return false;
-    }
-    is_sum_positive(x)
 }
 
 // The answer for a cell with these corners, at p.
@@ -128,40 +115,37 @@ pub fn sphere_answer(t: Tetrahedron, p: Position) -> Sphere
     let x = terms_at(t, p);
     let sum = float_sum(x);
     if is_inside(x, sum) {
-        return Sphere::Inside(sum);
+        Sphere::Inside(sum)
+    } else {
+        Sphere::Outside(sum)
     }
-    Sphere::Outside(sum)
 }
 
-fn sphere_refusal(t: Tetrahedron, p: Position) -> u8
-    ensures { result ≡ spec.sphere_refusal t.a t.b t.c t.d p }
+#[tactic(auto, unfolding(crate::specs::Sphere::sphere_refusal))]
+fn test(t: Tetrahedron, p: Position) -> Result<(), Refusal>
+    ensures { refused_by result ≡ spec.sphere_refusal t.a t.b t.c t.d p }
 {
-    if !corners_in_range(t) {
-        return 4;
+    if !corners_in_range(t) || !in_range(p) {
+        Err(Refusal::Outside)
+    } else if volume(t) <= 0 {
+        Err(Refusal::FlatCell)
+    } else {
+        Ok(())
     }
-    if !in_range(p) {
-        return 4;
-    }
-    if volume(t) <= 0 {
-        return 11;
-    }
-    0
 }
 
 // The sphere test as a call.
-pub fn sphere_test(a: Position, b: Position, c: Position, d: Position, p: Position) -> Tested
-    ensures value { result ≡ spec.sphere_call a b c d p }
-    ensures near { spec.CarriesNear (spec.sphere_sum a b c d p) result }
+pub fn sphere_test(
+    a: Position,
+    b: Position,
+    c: Position,
+    d: Position,
+    p: Position,
+) -> Result<Sphere, Refusal>
+    ensures value { spec.as_tested result ≡ spec.sphere_call a b c d p }
+    ensures near { spec.CarriesNear (spec.sphere_sum a b c d p) (spec.as_tested result) }
 {
-    let t = Tetrahedron {
-        a: a,
-        b: b,
-        c: c,
-        d: d,
-    };
-    let refusal = sphere_refusal(t, p);
-    if refusal != 0 {
-        return Tested::Refused(refusal);
-    }
-    Tested::Answered(sphere_answer(t, p))
+    let t = Tetrahedron { a, b, c, d };
+    test(t, p)?;
+    Ok(sphere_answer(t, p))
 }

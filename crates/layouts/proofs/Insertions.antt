@@ -13,8 +13,8 @@ use Rattle.mesh.specs.declared.Mesh.{Mesh}
 use Rattle.mesh.specs.Tables.{Tables, cell_capacity, freed, live}
 use Rattle.mesh.specs.Refusal.{mesh_refusal}
 use Rattle.cavity.specs.Answers.{Answers, sphere, handed}
-use Rattle.insertion.specs.declared.Inserted.{Inserted}
-use Rattle.insertion.specs.declared.Inserted.TheVariants.{Accepted, Refused}
+use Rattle.insertion.specs.Inserted.{Inserted}
+use Rattle.insertion.specs.Inserted.{Accepted, Refused}
 use Rattle.insertion.specs.Insertion.{node_refusal, fewer_bytes, first_of, insert_refusal, report_of, Result, insert_unless, insert_call}
 use Rattle.insertion.specs.Look.{cavity_marks, begins_with, marked_refusal, marked_call}
 use Rattle.insertion.proofs.Refusals.{left_to_node, marked_passed, unless_accepted, unless_refused}

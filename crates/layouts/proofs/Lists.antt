@@ -9,9 +9,9 @@ use Rattle.mesh.specs.declared.Mesh.{Mesh}
 use Rattle.mesh.specs.Tables.{Tables, cell_capacity}
 use Rattle.cavity.specs.Answers.{sphere}
 use Rattle.insertion.specs.declared.Report.{Report}
-use Rattle.insertion.specs.declared.Inserted.TheVariants.{Accepted, Refused}
-use Rattle.insertion.specs.declared.Listed.{Listed}
-use Rattle.insertion.specs.declared.Listed.TheVariants.{Stopped}
+use Rattle.insertion.specs.Inserted.{Accepted, Refused}
+use Rattle.insertion.specs.Listed.{Listed}
+use Rattle.insertion.specs.Listed.{Stopped}
 use Rattle.insertion.specs.Insertion.{node_refusal, report_of, Result, inserted_mesh, inserted_tables}
 use Rattle.insertion.specs.List.{listed_node, listed_count, insert_from, list_call}
 use Rattle.insertion.proofs.Refusals.{node_accepted, node_refused}

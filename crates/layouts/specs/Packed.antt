@@ -10,10 +10,10 @@ use Rattle.mesh.specs.Refusal.{mesh_refusal}
 use Rattle.cavity.specs.Cavity.{visible}
 use Rattle.cavity.specs.Answers.{Answers, sphere, handed}
 use Rattle.star.specs.Star.{kept?, made_count, made_faces, Numbers, old_across, made_across, made_corner, new_points}
-use Rattle.insertion.specs.declared.Inserted.{Inserted}
-use Rattle.insertion.specs.declared.Inserted.TheVariants.{Accepted, Refused}
-use Rattle.insertion.specs.declared.Listed.{Listed}
-use Rattle.insertion.specs.declared.Listed.TheVariants.{Ended, Stopped, Refused as AllRefused}
+use Rattle.insertion.specs.Inserted.{Inserted}
+use Rattle.insertion.specs.Inserted.{Accepted, Refused}
+use Rattle.insertion.specs.Listed.{Listed}
+use Rattle.insertion.specs.Listed.{Ended, Stopped, Refused as AllRefused}
 use Rattle.insertion.specs.Insertion.{last_cavity, node_refusal, insert_refusal, report_of, Result}
 use Rattle.insertion.specs.List.{listed_node, listed_count}
 use Rattle.insertion.specs.Look.{marked_refusal, look_call}

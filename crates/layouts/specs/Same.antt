@@ -5,16 +5,16 @@ use Rattle.geometry.specs.declared.Position.{Position}
 use Rattle.mesh.specs.declared.Mesh.{Mesh}
 use Rattle.mesh.specs.Tables.{Tables, none, point, across, IsCell}
 use Rattle.mesh.specs.Check.{is_mesh}
-use Rattle.locate.specs.declared.Located.{Located}
-use Rattle.locate.specs.declared.Located.TheVariants.{Cell, Refused as NotLocated}
+use Rattle.locate.specs.Locate.{Located}
+use Rattle.locate.specs.Locate.{Cell, Refused as NotLocated}
 use Rattle.locate.specs.Locate.{locate_call}
 use Rattle.cavity.specs.Answers.{sphere, handed}
 use Rattle.insertion.specs.declared.Report.{Report}
-use Rattle.insertion.specs.declared.Inserted.{Inserted}
-use Rattle.insertion.specs.declared.Inserted.TheVariants.{Accepted, Refused}
-use Rattle.insertion.specs.declared.Listed.{Listed}
-use Rattle.insertion.specs.declared.Listed.TheVariants.{Ended, Stopped, Refused as AllRefused}
-use Rattle.insertion.specs.declared.Looked.TheVariants.{Reported, Refused as NotLooked}
+use Rattle.insertion.specs.Inserted.{Inserted}
+use Rattle.insertion.specs.Inserted.{Accepted, Refused}
+use Rattle.insertion.specs.Listed.{Listed}
+use Rattle.insertion.specs.Listed.{Ended, Stopped, Refused as AllRefused}
+use Rattle.insertion.specs.Looked.{Reported, Refused as NotLooked}
 use Rattle.insertion.specs.Insertion.{insert_call}
 use Rattle.insertion.specs.List.{list_call}
 use Rattle.insertion.specs.Look.{LookResult, look_call, marked_call}

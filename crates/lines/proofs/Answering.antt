@@ -10,20 +10,20 @@ use lib.Dec.{ltb}
 use lib.ListN.{length, take, drop, replicate, length-append, length-take, length-replicate}
 use lib.Seq.{take_at, length-take-le}
 use Rattle.mesh.specs.declared.Mesh.{Mesh}
-use Rattle.mesh.specs.declared.Started.{Started}
-use Rattle.mesh.specs.declared.Started.TheVariants.{Accepted as StartAccepted, Refused as StartRefused}
+use Rattle.mesh.specs.Start.{Started}
+use Rattle.mesh.specs.Start.{Accepted as StartAccepted, Refused as StartRefused}
 use Rattle.mesh.specs.Tables.{Tables, cell_capacity, cleared, corner, across, freed, tables}
 use Rattle.mesh.specs.Start.{over, start_answer, start_tables, StartLeaves}
 use Rattle.mesh.specs.Inner.{Celled}
-use Rattle.insertion.specs.declared.Listed.{Listed}
-use Rattle.insertion.specs.declared.Listed.TheVariants.{Ended, Stopped, Refused as ListRefused}
+use Rattle.insertion.specs.Listed.{Listed}
+use Rattle.insertion.specs.Listed.{Ended, Stopped, Refused as ListRefused}
 use Rattle.insertion.specs.List.{list_call, ListLeaves}
 use Rattle.calls.specs.Calls.{record_after_list}
 use Rattle.nodefile.specs.declared.Header.{Header}
-use Rattle.nodefile.specs.declared.Read.{Read}
-use Rattle.nodefile.specs.declared.Read.TheVariants.{Nodes, Refused as ReadRefused}
-use Rattle.nodefile.specs.declared.Written.{Written}
-use Rattle.nodefile.specs.declared.Written.TheVariants.{Bytes, Refused}
+use Rattle.nodefile.specs.Read.{Read}
+use Rattle.nodefile.specs.Read.{Nodes, Refused as ReadRefused}
+use Rattle.nodefile.specs.Write.{Written}
+use Rattle.nodefile.specs.Write.{Bytes, Refused}
 use Rattle.nodefile.specs.Read.{header, nodes, read_answer, ReadLeaves}
 use Rattle.nodefile.proofs.Answers.{Accepted}
 use Rattle.nodefile.proofs.RoundTrips.{read, nodes_read}

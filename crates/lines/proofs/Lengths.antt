@@ -7,8 +7,8 @@ use lib.Dec.{eqb, ltb}
 use lib.ListN.{length, length-append}
 use Rattle.mesh.specs.declared.Mesh.{Mesh}
 use Rattle.mesh.specs.Tables.{Tables, none, corner, across, freed}
-use Rattle.insertion.specs.declared.Listed.{Listed}
-use Rattle.insertion.specs.declared.Listed.TheVariants.{Ended, Stopped, Refused}
+use Rattle.insertion.specs.Listed.{Listed}
+use Rattle.insertion.specs.Listed.{Ended, Stopped, Refused}
 use Rattle.lines.specs.Text.{concat_below, digit, decimal, space}
 use Rattle.lines.specs.Listing.{box_line, neighbour_word, corner_words, neighbour_words, cell_line, entry_text, mesh_text, refused_line, stopped_line, list_text}
 use Rattle.lines.specs.Inner.{entries_listed, longest}

@@ -1,11 +1,11 @@
 -- What the functions that write text leave.
 use Rattle.std.specs.Prelude.{ℕ, ◌+◌, ◌≤◌, List, ◌++◌, ◌≡◌, length, take, drop}
 use Rattle.mesh.specs.declared.Mesh.{Mesh}
-use Rattle.mesh.specs.declared.Started.TheVariants.{Accepted}
+use Rattle.mesh.specs.Start.{Accepted}
 use Rattle.mesh.specs.Tables.{Tables}
 use Rattle.mesh.specs.Start.{StartLeaves}
-use Rattle.insertion.specs.declared.Listed.{Listed}
-use Rattle.insertion.specs.declared.Listed.TheVariants.{Ended, Stopped, Refused}
+use Rattle.insertion.specs.Listed.{Listed}
+use Rattle.insertion.specs.Listed.{Ended, Stopped, Refused}
 
 -- out with the text s from place at on
 unfoldable pub put : List ℕ → ℕ → List ℕ → List ℕ

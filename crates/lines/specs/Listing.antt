@@ -1,17 +1,17 @@
 -- What the listing program prints for a file: document 01, 'Test pieces'.
 use Rattle.std.specs.Prelude.{ℕ, ◌+◌, ◌*◌, cond, List, ◌∷◌, ◌++◌, [], ◌≡◌, ltb, eqb, length, replicate}
 use Rattle.mesh.specs.declared.Mesh.{Mesh}
-use Rattle.mesh.specs.declared.Started.{Started}
-use Rattle.mesh.specs.declared.Started.TheVariants.{Accepted, Refused as StartRefused}
+use Rattle.mesh.specs.Start.{Started}
+use Rattle.mesh.specs.Start.{Accepted, Refused as StartRefused}
 use Rattle.mesh.specs.Tables.{Tables, none, corner, across, freed}
 use Rattle.mesh.specs.Start.{over, start_answer, start_tables}
-use Rattle.insertion.specs.declared.Listed.{Listed}
-use Rattle.insertion.specs.declared.Listed.TheVariants.{Ended, Stopped, Refused as ListRefused}
+use Rattle.insertion.specs.Listed.{Listed}
+use Rattle.insertion.specs.Listed.{Ended, Stopped, Refused as ListRefused}
 use Rattle.insertion.specs.List.{list_call}
-use Rattle.nodefile.specs.declared.Read.{Read}
-use Rattle.nodefile.specs.declared.Read.TheVariants.{Nodes, Refused as ReadRefused}
-use Rattle.nodefile.specs.declared.Written.{Written}
-use Rattle.nodefile.specs.declared.Written.TheVariants.{Bytes, Refused}
+use Rattle.nodefile.specs.Read.{Read}
+use Rattle.nodefile.specs.Read.{Nodes, Refused as ReadRefused}
+use Rattle.nodefile.specs.Write.{Written}
+use Rattle.nodefile.specs.Write.{Bytes, Refused}
 use Rattle.nodefile.specs.Read.{nodes, read_answer}
 use Rattle.lines.specs.Text.{concat_below, decimal, space, line_end}
 

@@ -2,51 +2,38 @@
 
 #![tactic(auto)]
 
-ghost use Rattle.std.specs.Prelude.{◌+◌, ◌*◌, ◌≤◌, ◌<◌, [], length};
+ghost use Rattle.std.specs.Prelude.{◌+◌, ◌≤◌, [], length};
 ghost use Rattle.mesh.specs.Tables.{tables};
 ghost use Rattle.mesh.specs.Inner.{HasCell, Celled};
 ghost use Rattle.lines.specs.Text.{concat_below};
-ghost use Rattle.lines.specs.Listing.{neighbour_word, corner_words, neighbour_words, cell_line, entry_text};
+ghost use Rattle.lines.specs.Listing.{cell_line, entry_text};
 ghost use Rattle.lines.specs.Inner.{Wrote};
+ghost use Rattle.lines_cells.specs.Words.{word, four_words};
 
 use lines_text::{write_bytes, write_decimal, write_number};
+use mesh::NONE;
 use mesh_tables::{four_at, is_freed};
 
-fn write_corners(corners: &[u16], cell: usize, out: &mut [u8], at: usize) -> usize
-    requires { HasCell cell corners.now × (at + length (corner_words (tables [] corners.now []) cell) ≤ length out.old) }
-    ensures { Wrote (corner_words (tables [] corners.now []) cell) out.old at result out.new }
+// A dash for the number `none`.
+#[tactic(auto, unfolding(crate::specs::Words::word))]
+fn write_word(none: Option<u16>, number: u16, out: &mut [u8], at: usize) -> usize
+    requires { at + length (word none number) ≤ length out.old }
+    ensures { Wrote (word none number) out.old at result out.new }
 {
-    let first = 4 * cell;
-    let mut next = at;
-    let mut i: usize = 0;
-    while i < 4 {
-        next = write_number(b" ", corners[first + i] as u32, out, next);
-        i += 1;
+    if Some(number) == none {
+        write_bytes(b" -", out, at)
+    } else {
+        write_number(b" ", u32::from(number), out, at)
     }
-    next
 }
 
-// A dash for no neighbour.
-fn write_neighbour(number: u16, out: &mut [u8], at: usize) -> usize
-    requires { at + length (neighbour_word number) ≤ length out.old }
-    ensures { Wrote (neighbour_word number) out.old at result out.new }
+fn write_four(none: Option<u16>, numbers: [u16; 4], out: &mut [u8], at: usize) -> usize
+    requires { at + length (four_words none numbers) ≤ length out.old }
+    ensures { Wrote (four_words none numbers) out.old at result out.new }
 {
-    if number == 65535 {
-        return write_bytes(b" -", out, at);
-    }
-    write_number(b" ", number as u32, out, at)
-}
-
-fn write_neighbours(neighbours: &[u16], cell: usize, out: &mut [u8], at: usize) -> usize
-    requires { HasCell cell neighbours.now × (at + length (neighbour_words (tables [] [] neighbours.now) cell) ≤ length out.old) }
-    ensures { Wrote (neighbour_words (tables [] [] neighbours.now) cell) out.old at result out.new }
-{
-    let first = 4 * cell;
     let mut next = at;
-    let mut i: usize = 0;
-    while i < 4 {
-        next = write_neighbour(neighbours[first + i], out, next);
-        i += 1;
+    for number in numbers {
+        next = write_word(none, number, out, next);
     }
     next
 }
@@ -57,8 +44,8 @@ fn write_cell(corners: &[u16], neighbours: &[u16], cell: usize, out: &mut [u8], 
     ensures { Wrote (cell_line (tables [] corners.now neighbours.now) cell) out.old at result out.new }
 {
     let second = write_decimal(cell as u32, out, at);
-    let third = write_corners(corners, cell, out, second);
-    let fourth = write_neighbours(neighbours, cell, out, third);
+    let third = write_four(None, four_at(corners, cell), out, second);
+    let fourth = write_four(Some(NONE), four_at(neighbours, cell), out, third);
     write_bytes(b"\n", out, fourth)
 }
 
@@ -69,9 +56,10 @@ fn write_entry(corners: &[u16], neighbours: &[u16], c: usize, out: &mut [u8], at
     ensures { Wrote (entry_text (tables [] corners.now neighbours.now) c) out.old at result out.new }
 {
     if is_freed(four_at(corners, c)) {
-        return at;
+        at
+    } else {
+        write_cell(corners, neighbours, c, out, at)
     }
-    write_cell(corners, neighbours, c, out, at)
 }
 
 // The cells among the first `used` entries, by rising number.
@@ -87,10 +75,8 @@ pub fn write_cells(
     ensures { Wrote (concat_below used (entry_text (tables [] corners.now neighbours.now))) out.old at result out.new }
 {
     let mut next = at;
-    let mut c: usize = 0;
-    while c < used {
+    for c in 0..used {
         next = write_entry(corners, neighbours, c, out, next);
-        c += 1;
     }
     next
 }

@@ -10,8 +10,8 @@ ghost use Rattle.lines.specs.Inner.{Wrote, longest};
 
 use lines_box::list_nodes;
 use lines_listed::write_refused;
-use nodefile::Read;
 use nodefile_read::read_nodes;
+use refusal::Refusal;
 
 // The listing of a file, with the tables and the nodes' place lent.
 fn list_file(
@@ -27,10 +27,8 @@ fn list_file(
     ensures { Wrote (read_text (read_answer file.now (length nodes.old)) (tables points.old corners.old neighbours.old) (length work.old) (file_nodes file.now))
         out.old 0 result out.new }
 {
-    let answer = read_nodes(file, nodes);
-    match answer {
-        Read::Nodes(header) => {
-            let end = 3 * header.count as usize;
+    match read_nodes(file, nodes) {
+        Ok(header) => {
             list_nodes(
                 header.x,
                 header.y,
@@ -39,11 +37,11 @@ fn list_file(
                 corners,
                 neighbours,
                 work,
-                &nodes[..end],
+                &nodes[..3 * header.count as usize],
                 out,
             )
         }
-        Read::Refused(number) => write_refused(number, out),
+        Err(refusal) => write_refused(refusal, out),
     }
 }
 
@@ -52,8 +50,8 @@ pub fn list_input(file: &[u8], out: &mut [u8]) -> usize
     requires { longest ≤ length out.old }
     ensures { Wrote (listing_of file.now) out.old 0 result out.new }
 {
-    if 65536 < file.len() {
-        return write_refused(9, out);
+    if file.len() > 65536 {
+        return write_refused(Refusal::Trailer, out);
     }
     let mut points = [0u32; 3072];
     let mut corners = [0u16; 16384];

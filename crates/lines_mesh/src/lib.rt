@@ -31,6 +31,5 @@ pub fn write_mesh(mesh: Mesh, corners: &[u16], neighbours: &[u16], out: &mut [u8
     ensures { Wrote (mesh_text mesh (tables [] corners.now neighbours.now)) out.old 0 result out.new }
 {
     let next = write_box(mesh, out, 0);
-    let used = mesh.used as usize;
-    write_cells(corners, neighbours, used, out, next)
+    write_cells(corners, neighbours, mesh.used as usize, out, next)
 }

@@ -5,7 +5,6 @@
 ghost use Rattle.std.specs.Prelude.{IfOk, ◌≤◌, length};
 
 use lines_listing::listing;
-use nodefile::Written;
 use std::io;
 use std::io::Read;
 
@@ -14,6 +13,7 @@ fn read_full(input: &mut impl Read, buffer: &mut [u8]) -> io::Result<usize>
     ensures { IfOk result (λ got. got ≤ length buffer.new) }
 {
     let mut got = 0;
+    // What ends it is what the input gives.
     while got < buffer.len() {
         let more = input.read(&mut buffer[got..])?;
         if more == 0 {
@@ -31,7 +31,7 @@ fn main(rt: HostRuntime) -> io::Result<()> {
     let mut out = [0u8; 409600];
     let got = read_full(&mut rt.stdin(), &mut file)?;
     match listing(&file[..got], &mut out) {
-        Written::Bytes(length) => rt.stdout().write_all(&out[..length as usize]),
-        Written::Refused(_) => rt.stderr().write_all(b"listing: the output is too short\n"),
+        Ok(length) => rt.stdout().write_all(&out[..length as usize]),
+        Err(_) => rt.stderr().write_all(b"listing: the output is too short\n"),
     }
 }

@@ -13,7 +13,7 @@ use Rattle.geometry.specs.Volume.{in_box}
 use Rattle.mesh.specs.declared.Mesh.{Mesh}
 use Rattle.mesh.specs.Tables.{Tables}
 use Rattle.mesh.specs.Refusal.{mesh_refusal}
-use Rattle.locate.specs.declared.Located.TheVariants.{Cell, Refused}
+use Rattle.locate.specs.Locate.{Cell, Refused}
 use Rattle.locate.specs.Locate.{holds, first_holder, locate_refusal, locate_call}
 use Rattle.locate.proofs.First.{NoneHolds, IsFirst, first_or_none, none_is, holder_is_first}
 

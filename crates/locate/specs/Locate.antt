@@ -1,15 +1,24 @@
 -- Locating a position.
-use Rattle.std.specs.Prelude.{ℕ, ◌+◌, ◌*◌, Bool, false, not, ◌&&◌, cond, List, eqb, pos}
+use Rattle.std.specs.Prelude.{ℕ, ◌+◌, ◌*◌, Bool, false, not, ◌&&◌, cond, List, eqb, pos, Result, Ok, Err}
 use Rattle.std.specs.Int.Signed.{le_z}
+use Rattle.refusal.specs.declared.Refusal.{Refusal}
+use Rattle.refusal.specs.Refusal.{refusal_number}
 use Rattle.arith.specs.Table.{tabulate, all_below, any_below, first_below}
 use Rattle.geometry.specs.declared.Position.{Position}
 use Rattle.geometry.specs.Volume.{in_box}
 use Rattle.mesh.specs.declared.Mesh.{Mesh}
 use Rattle.mesh.specs.Tables.{Tables, corner, side, live}
-use Rattle.locate.specs.declared.Located.{Located}
-use Rattle.locate.specs.declared.Located.TheVariants.{Cell, Refused}
 use Rattle.mesh.specs.Refusal.{mesh_refusal}
 use Rattle.locate.specs.Order.{sorted, lex_before}
+
+-- what locating answers: the cell's number, or the refusal's
+pub data Located : Type 0 where
+  Cell : ℕ → Located
+  Refused : ℕ → Located
+
+abbrev pub as_located : Result ℕ Refusal → Located
+as_located (Ok c) = Cell c
+as_located (Err e) = Refused (refusal_number e)
 
 -- '"Holds" includes the cell's faces, edges and corners.' A freed entry holds nothing.
 unfoldable pub holds : Tables → Position → ℕ → Bool

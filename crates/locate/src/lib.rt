@@ -2,13 +2,7 @@
 
 #![tactic(auto)]
 
-#[derive(Clone, Copy)]
-pub enum Located {
-    Cell(u32),
-    Refused(u8),
-}
-
-// The cell that comes first so far, and its key; before there is one, the cell count and a number above all keys.
+// The cell that comes first so far, and its key.
 #[derive(Clone, Copy)]
 pub struct Candidate {
     pub cell: usize,

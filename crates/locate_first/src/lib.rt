@@ -2,12 +2,12 @@
 
 #![tactic(auto)]
 
-ghost use Rattle.std.specs.Prelude.{[], ◌≡◌};
+ghost use Rattle.std.specs.Prelude.{[], ◌≡◌, ◌<◌, unwrap_or, IfSome};
 ghost use Rattle.geometry.specs.Volume.{InRange};
 ghost use Rattle.mesh.specs.Tables.{tables};
 ghost use Rattle.mesh.specs.Inner.{Solid};
 ghost use Rattle.locate.specs.Locate.{first_holder};
-ghost use Rattle.locate.specs.Inner.{earlier};
+ghost use Rattle.locate_first.specs.Candidates.{earlier_of};
 
 use geometry::Position;
 use locate::Candidate;
@@ -15,39 +15,37 @@ use locate_holding::{cell_holds, may_hold, side_codes};
 use locate_key::key_of;
 use mesh_tables::four_at;
 
-// Above the key of every cell.
-const ABOVE_KEYS: u64 = 1099511627776;
-
 // Cell c with the corners k where it comes before the candidate, else the candidate.
-fn earlier(k: [u16; 4], c: usize, candidate: Candidate) -> Candidate
-    ensures { result ≡ earlier k c candidate }
+#[tactic(auto, unfolding(crate::specs::Candidates::earlier_of, locate::specs::Inner::earlier))]
+fn earlier(k: [u16; 4], c: usize, first: Option<Candidate>) -> Candidate
+    ensures { result ≡ earlier_of k c first }
 {
     let key = key_of(k);
-    if key < candidate.key {
-        return Candidate { cell: c, key: key };
+    match first {
+        Some(first) if first.key <= key => first,
+        _ => Candidate { cell: c, key },
     }
-    candidate
 }
 
-// Of the cells among n entries that hold q, the one whose sorted corners come first; n where none does.
-pub fn first_holder(points: &[u32], corners: &[u16], np: usize, n: usize, q: Position) -> usize
+// Of the cells among n entries that hold q, the one whose sorted corners come first.
+pub fn first_holder(
+    points: &[u32],
+    corners: &[u16],
+    np: usize,
+    n: usize,
+    q: Position,
+) -> Option<usize>
     requires { Solid points.now corners.now np n × InRange q }
-    ensures { result ≡ first_holder (tables points.now corners.now []) n q }
+    ensures first { unwrap_or result n ≡ first_holder (tables points.now corners.now []) n q }
+    ensures below { IfSome result (λ c. c < n) }
 {
     let codes = side_codes(points, np, q);
-    let mut first = Candidate {
-        cell: n,
-        key: ABOVE_KEYS,
-    };
-    let mut c: usize = 0;
-    while c < n {
+    let mut first = None;
+    for c in 0..n {
         let k = four_at(corners, c);
-        if may_hold(&codes, k) {
-            if cell_holds(points, k, q) {
-                first = earlier(k, c, first);
-            }
+        if may_hold(&codes, k) && cell_holds(points, k, q) {
+            first = Some(earlier(k, c, first));
         }
-        c += 1;
     }
-    first.cell
+    first.map(|candidate| candidate.cell)
 }

@@ -22,7 +22,7 @@ use Rattle.mesh.proofs.Room.{Room, room_of}
 use Rattle.mesh.proofs.Live.{freed_of}
 use Rattle.mesh.proofs.Checked.{side_yes}
 use Rattle.mesh.proofs.Valid.{valid_of, passed}
-use Rattle.locate.specs.declared.Located.TheVariants.{Cell, Refused as NotLocated}
+use Rattle.locate.specs.Locate.{Cell, Refused as NotLocated}
 use Rattle.locate.specs.Locate.{first_holder, locate_call}
 use Rattle.locate.proofs.Codes.{holder_cell}
 use Rattle.locate.proofs.First.{corners_cong, corners_below}
@@ -33,7 +33,7 @@ use Rattle.star.specs.Star.{kept?, star_numbers}
 use Rattle.star.proofs.Numbered.{IsStar}
 use Rattle.star.proofs.Star.{freed_corners}
 use Rattle.insertion.specs.declared.Report.{Report}
-use Rattle.insertion.specs.declared.Inserted.TheVariants.{Accepted}
+use Rattle.insertion.specs.Inserted.{Accepted}
 use Rattle.insertion.specs.Insertion.{last_cavity, node_refusal, fewer_bytes, inserted_mesh, inserted_tables, insert_node, insert_call}
 use Rattle.insertion.proofs.Refusals.{node_fits, call_is_node, accepted_node_lem, accepted_call}
 use Rattle.insertion.proofs.Growing.{fits, inserted_star, inserted_valid, checks_again}

@@ -18,7 +18,7 @@ use Rattle.mesh.specs.Refusal.{mesh_refusal}
 use Rattle.mesh.proofs.Room.{Room, room_of}
 use Rattle.mesh.proofs.Valid.{valid_of, passed}
 use Rattle.mesh.proofs.Held.{Holds, own_corner, weighted_nonneg}
-use Rattle.locate.specs.declared.Located.TheVariants.{Cell}
+use Rattle.locate.specs.Locate.{Cell}
 use Rattle.locate.specs.Order.{lex_before}
 use Rattle.locate.specs.Locate.{holds, sorted_corners, first_holder, locate_call}
 use Rattle.locate.proofs.Codes.{holder_cell}

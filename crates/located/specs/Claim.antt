@@ -3,8 +3,8 @@ use Rattle.std.specs.Prelude.{ℕ, ◌<◌, true, ◌≢◌, ◌≡◌}
 use Rattle.geometry.specs.declared.Position.{Position}
 use Rattle.mesh.specs.declared.Mesh.{Mesh}
 use Rattle.mesh.specs.Tables.{Tables, point, corner, IsCell}
-use Rattle.locate.specs.declared.Located.{Located}
-use Rattle.locate.specs.declared.Located.TheVariants.{Cell, Refused}
+use Rattle.locate.specs.Locate.{Located}
+use Rattle.locate.specs.Locate.{Cell, Refused}
 use Rattle.locate.specs.Order.{lex_before}
 use Rattle.locate.specs.Locate.{holds, sorted_corners, locate_call}
 

@@ -5,7 +5,7 @@ use Rattle.mesh.specs.declared.Mesh.{Mesh}
 use Rattle.mesh.specs.Tables.{Tables, corner, IsCell}
 use Rattle.mesh.specs.Check.{is_mesh}
 use Rattle.mesh.specs.Refusal.{mesh_refusal}
-use Rattle.locate.specs.declared.Located.TheVariants.{Cell}
+use Rattle.locate.specs.Locate.{Cell}
 use Rattle.locate.specs.Locate.{locate_call}
 use Rattle.cavity.specs.Answers.{Answers}
 use Rattle.cavity.specs.Cavity.{in_set}

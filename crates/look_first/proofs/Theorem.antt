@@ -22,9 +22,9 @@ use Rattle.mesh.proofs.Valid.{valid_of, passed}
 use Rattle.cavity.specs.Answers.{sphere}
 use Rattle.cavity.specs.Cavity.{in_set}
 use Rattle.insertion.specs.declared.Report.{Report}
-use Rattle.insertion.specs.declared.Inserted.{Inserted}
-use Rattle.insertion.specs.declared.Inserted.TheVariants.{Accepted, Refused}
-use Rattle.insertion.specs.declared.Looked.TheVariants.{Reported, Refused as LookRefused}
+use Rattle.insertion.specs.Inserted.{Inserted}
+use Rattle.insertion.specs.Inserted.{Accepted, Refused}
+use Rattle.insertion.specs.Looked.{Reported, Refused as LookRefused}
 use Rattle.insertion.specs.Insertion.{last_cavity, node_refusal, fewer_bytes, first_of, insert_refusal, report_of, inserted_mesh, inserted_tables, insert_unless, insert_call}
 use Rattle.insertion.specs.Look.{cavity_marks, look_refusal, look_unless, look_call, begins_with, marked_refusal, marked_call}
 use Rattle.insertion.proofs.Refusals.{first_refuses, first_passes, look_refuses, look_passes, look_passed, marked_refuses, marked_passes, marked_passed, unless_accepted, unless_refused, accepted_unless, refused_unless, up_to_eight, node_fits, tests_passed}

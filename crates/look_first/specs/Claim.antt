@@ -5,8 +5,8 @@ use Rattle.mesh.specs.declared.Mesh.{Mesh}
 use Rattle.mesh.specs.Tables.{Tables, live, IsCell}
 use Rattle.cavity.specs.Answers.{sphere}
 use Rattle.insertion.specs.declared.Report.{Report}
-use Rattle.insertion.specs.declared.Inserted.TheVariants.{Accepted, Refused}
-use Rattle.insertion.specs.declared.Looked.TheVariants.{Reported, Refused as LookRefused}
+use Rattle.insertion.specs.Inserted.{Accepted, Refused}
+use Rattle.insertion.specs.Looked.{Reported, Refused as LookRefused}
 use Rattle.insertion.specs.Insertion.{insert_call}
 use Rattle.insertion.specs.Look.{look_call, marked_call}
 use Rattle.located.specs.Claim.{Stands, KeepsNumber}

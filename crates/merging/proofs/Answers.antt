@@ -19,10 +19,10 @@ use Rattle.geometry.specs.Volume.{in_box}
 use Rattle.mesh.specs.Tables.{point_in}
 use Rattle.mesh.specs.Start.{over}
 use Rattle.nodefile.specs.declared.Header.{Header}
-use Rattle.nodefile.specs.declared.Read.{Read}
-use Rattle.nodefile.specs.declared.Read.TheVariants.{Nodes, Refused as ReadRefused}
-use Rattle.nodefile.specs.declared.Written.{Written}
-use Rattle.nodefile.specs.declared.Written.TheVariants.{Bytes, Refused}
+use Rattle.nodefile.specs.Read.{Read}
+use Rattle.nodefile.specs.Read.{Nodes, Refused as ReadRefused}
+use Rattle.nodefile.specs.Write.{Written}
+use Rattle.nodefile.specs.Write.{Bytes, Refused}
 use Rattle.nodefile.specs.Read.{header, nodes, read_refusal, read_answer, ReadLeaves}
 use Rattle.nodefile.specs.Write.{file_of}
 use Rattle.nodefile.proofs.Answers.{Accepted, later, any_room, accept, accepted, two_writes, file_length}

@@ -20,7 +20,7 @@ use Rattle.mesh.specs.Check.{legal_side}
 use Rattle.mesh.specs.Start.{over}
 use Rattle.mesh.proofs.Checked.{same_position_of, same_position_yes, side_of}
 use Rattle.nodefile.specs.declared.Header.{Header}
-use Rattle.nodefile.specs.declared.Read.TheVariants.{Nodes}
+use Rattle.nodefile.specs.Read.{Nodes}
 use Rattle.nodefile.specs.Read.{header, nodes, read_answer, read_output, ReadLeaves}
 use Rattle.nodefile.proofs.Digits.{Words}
 use Rattle.nodefile.proofs.Answers.{accepted}

@@ -5,10 +5,10 @@ use Rattle.geometry.specs.declared.Position.{Position}
 use Rattle.mesh.specs.Tables.{point_in}
 use Rattle.mesh.specs.Start.{over}
 use Rattle.nodefile.specs.declared.Header.{Header}
-use Rattle.nodefile.specs.declared.Read.{Read}
-use Rattle.nodefile.specs.declared.Read.TheVariants.{Nodes, Refused as ReadRefused}
-use Rattle.nodefile.specs.declared.Written.{Written}
-use Rattle.nodefile.specs.declared.Written.TheVariants.{Bytes, Refused}
+use Rattle.nodefile.specs.Read.{Read}
+use Rattle.nodefile.specs.Read.{Nodes, Refused as ReadRefused}
+use Rattle.nodefile.specs.Write.{Written}
+use Rattle.nodefile.specs.Write.{Bytes, Refused}
 use Rattle.nodefile.specs.Read.{header, nodes}
 use Rattle.merging.specs.Merge.{surveyed, kept, coordinates, with_count, file_of_positions, file_refusal, same_sides, all_inside}
 

@@ -3,9 +3,9 @@ use Rattle.std.specs.Prelude.{ℕ, ◌*◌, ◌≤◌, Bool, true, false, not, �
 use Rattle.geometry.specs.declared.Position.{Position}
 use Rattle.mesh.specs.Start.{over}
 use Rattle.nodefile.specs.declared.Header.{Header}
-use Rattle.nodefile.specs.declared.Read.{Read}
-use Rattle.nodefile.specs.declared.Read.TheVariants.{Nodes}
-use Rattle.nodefile.specs.declared.Written.TheVariants.{Bytes}
+use Rattle.nodefile.specs.Read.{Read}
+use Rattle.nodefile.specs.Read.{Nodes}
+use Rattle.nodefile.specs.Write.{Bytes}
 use Rattle.nodefile.specs.Read.{header, ReadLeaves}
 use Rattle.merging.specs.Merge.{positions, surveyed, among, box_corners, kept, left, coordinates, with_count, file_refusal, same_sides, all_inside, MergeLeaves}
 

@@ -7,8 +7,8 @@ use Rattle.mesh.specs.Tables.{point_in}
 use Rattle.mesh.specs.Mesh.{box_corner}
 use Rattle.mesh.specs.Start.{over}
 use Rattle.nodefile.specs.declared.Header.{Header}
-use Rattle.nodefile.specs.declared.Written.{Written}
-use Rattle.nodefile.specs.declared.Written.TheVariants.{Bytes, Refused}
+use Rattle.nodefile.specs.Write.{Written}
+use Rattle.nodefile.specs.Write.{Bytes, Refused}
 use Rattle.nodefile.specs.Read.{header, nodes, read_refusal}
 use Rattle.nodefile.specs.Write.{file_of}
 

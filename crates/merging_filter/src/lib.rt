@@ -1,5 +1,6 @@
 // Each position a single time, box corners left out: the nodes that are left move to the front, in their order. A hash table finds a position
-// in a few steps.
+// in a few steps. It lies in fixed memory, since no call takes memory of the heap: an entry is 0 where its place is empty, else one more than
+// a node's number.
 
 #![tactic(auto)]
 
@@ -7,39 +8,29 @@ ghost use Rattle.std.specs.Prelude.{◌≡◌, ◌+◌, ◌*◌, ◌≤◌, ◌<
 ghost use Rattle.merging.specs.Inner.{at_end, is_corner, hash_of, Indexed, ProbeEnds, Roomy, Filters, FilteredAll};
 
 use geometry::Position;
-use geometry::volume::same_position;
 use mesh_tables::{point_at, put_point};
 use nodefile::Header;
 
 fn at_end(side: u32, v: u32) -> bool
     ensures { result ≡ at_end side v }
 {
-    if v == 0 {
-        return true;
-    }
-    v == side
+    v == 0 || v == side
 }
 
+#[tactic(auto, unfolding(merging::specs::Inner::is_corner))]
 fn is_corner(head: Header, p: Position) -> bool
     ensures { result ≡ is_corner head p }
 {
-    if !at_end(head.x, p.x) {
-        return false;
-    }
-    if !at_end(head.y, p.y) {
-        return false;
-    }
-    at_end(head.z, p.z)
+    at_end(head.x, p.x) && at_end(head.y, p.y) && at_end(head.z, p.z)
 }
 
 // merging/specs/Inner says why these factors.
+#[tactic(auto, unfolding(merging::specs::Inner::hash_of))]
 fn hash(p: Position) -> usize
     ensures { result ≡ hash_of p }
 {
-    let x = p.x as u64;
-    let y = p.y as u64;
-    let z = p.z as u64;
-    ((879579789 * x + 720527587 * y + 590236393 * z) / 524288 % 2048) as usize
+    let sum = 879579789 * u64::from(p.x) + 720527587 * u64::from(p.y) + 590236393 * u64::from(p.z);
+    (sum / 524288 % 2048) as usize
 }
 
 // The place at which the search for p ends. The table names the first count nodes.
@@ -48,9 +39,10 @@ fn probe(table: &[u16], nodes: &[u32], count: usize, p: Position) -> usize
     ensures { ProbeEnds nodes.now table.now p result }
 {
     let mut at = hash(p);
+    // The entries decide where it ends: `Roomy` says that a place is empty.
     while table[at] != 0 {
-        let node = table[at] as usize - 1;
-        if same_position(point_at(nodes, node), p) {
+        let node = usize::from(table[at]) - 1;
+        if point_at(nodes, node) == p {
             return at;
         }
         at += 1;
@@ -82,12 +74,9 @@ pub fn keep_firsts(head: Header, nodes: &mut [u32]) -> u32
     ensures { FilteredAll head nodes.old result nodes.new }
 {
     let mut table = [0u16; 4096];
-    let n = head.count as usize;
-    let mut count: usize = 0;
-    let mut i: usize = 0;
-    while i < n {
+    let mut count = 0;
+    for i in 0..head.count as usize {
         count = keep(head, nodes, &mut table, count, i);
-        i += 1;
     }
     count as u32
 }

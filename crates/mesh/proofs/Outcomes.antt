@@ -9,7 +9,7 @@ use borrow.Author.Tests.{ne_eqb, eq-eqb, ltb-false}
 use lib.Dec.{ltb}
 use lib.ListN.{length, length-replicate}
 use Rattle.arith.proofs.Flags.{split}
-use Rattle.mesh.specs.declared.Started.TheVariants.{Accepted, Refused}
+use Rattle.mesh.specs.Start.{Accepted, Refused}
 use Rattle.mesh.specs.Tables.{point_capacity, cell_capacity, cleared, tables}
 use Rattle.mesh.specs.Start.{over, short, start_refusal, start_answer, start_tables, started, started_mesh, start_points, start_corners, start_neighbours, StartLeaves}
 use Rattle.mesh.specs.Inner.{short_lengths, start_refusal_of}

@@ -4,7 +4,7 @@ use mathlib.Core.List.{List, ◌∷◌, []}
 use mathlib.Core.Path.{◌≡◌, refl}
 use lib.ListN.{replicate}
 use Rattle.arith.specs.Table.{fill, tabulate}
-use Rattle.mesh.specs.declared.Started.TheVariants.{Accepted, Refused}
+use Rattle.mesh.specs.Start.{Accepted, Refused}
 use Rattle.mesh.specs.Tables.{Tables, point_capacity, cell_capacity, none, corner, across, tables}
 use Rattle.mesh.specs.Start.{start_corners, start_neighbours, started, started_mesh, short, start_refusal, start_answer}
 

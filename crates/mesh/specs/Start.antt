@@ -1,10 +1,19 @@
 -- Starting a mesh in a box.
-use Rattle.std.specs.Prelude.{ℕ, Bool, not, cond, ◌||◌, List, ◌∷◌, ◌++◌, [], ◌≡◌, ltb, eqb, length, drop}
+use Rattle.std.specs.Prelude.{ℕ, Bool, not, cond, ◌||◌, List, ◌∷◌, ◌++◌, [], ◌≡◌, ltb, eqb, length, drop, Result, Ok, Err}
+use Rattle.refusal.specs.declared.Refusal.{Refusal}
+use Rattle.refusal.specs.Refusal.{refusal_number}
 use Rattle.mesh.specs.declared.Mesh.{Mesh}
-use Rattle.mesh.specs.declared.Started.{Started}
-use Rattle.mesh.specs.declared.Started.TheVariants.{Accepted, Refused}
 use Rattle.mesh.specs.Tables.{Tables, point_capacity, cell_capacity, cleared, none}
 use Rattle.mesh.specs.Check.{legal_box}
+
+-- what a start answers: the record, or the refusal's number
+pub data Started : Type 0 where
+  Accepted : Mesh → Started
+  Refused : ℕ → Started
+
+abbrev pub as_started : Result Mesh Refusal → Started
+as_started (Ok m) = Accepted m
+as_started (Err e) = Refused (refusal_number e)
 
 -- the first entries of old replaced by new
 abbrev pub over : List ℕ → List ℕ → List ℕ

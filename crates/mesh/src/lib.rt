@@ -2,6 +2,9 @@
 
 #![tactic(auto)]
 
+// No neighbour; each corner of a freed entry; the end of the chain. C has it as GANTRY_NONE.
+pub const NONE: u16 = 65535;
+
 // Sides, point count, cell count, the chain's first number (65,535 where it is empty) and how many entries of the cell tables are in
 // use; C has it as gantry_mesh (include/gantry.h), whose layout is fixed.
 #[repr(C)]
@@ -21,10 +24,4 @@ pub struct Mesh {
 pub struct Cell {
     pub corners: [u16; 4],
     pub neighbours: [u16; 4],
-}
-
-#[derive(Clone, Copy)]
-pub enum Started {
-    Accepted(Mesh),
-    Refused(u8),
 }

@@ -2,7 +2,7 @@
 
 #![tactic(auto)]
 
-ghost use Rattle.std.specs.Prelude.{[], ◌≡◌, ◌≤◌, ◌<◌, ◌*◌, length, get_or};
+ghost use Rattle.std.specs.Prelude.{[], ◌≡◌, ◌≢◌, ◌<◌, ◌*◌, MatchOption, length, get_or};
 ghost use Rattle.mesh.specs.Tables.{tables};
 ghost use Rattle.mesh.specs.Mesh.{LegalSide};
 ghost use Rattle.mesh.specs.Inner.{Placed, Celled};
@@ -16,31 +16,20 @@ use mesh_tables::{four_at, is_freed, positions};
 fn all_below(k: [u16; 4], np: u32) -> bool
     ensures { result ≡ numbers_below np k }
 {
-    if np <= k[3] as u32 {
-        return false;
-    }
-    if np <= k[2] as u32 {
-        return false;
-    }
-    if np <= k[1] as u32 {
-        return false;
-    }
-    (k[0] as u32) < np
+    k.iter().all(|&v| u32::from(v) < np)
 }
 
-// The six-fold volume of a cell with the corners k: 0 where it is not above 0, or a number is no point's.
-fn volume_or_zero(points: &[u32], np: u32, k: [u16; 4]) -> u64
+// The six-fold volume of a cell with the corners k: none where it is not above 0, or a number is no point's.
+fn positive_volume(points: &[u32], np: u32, k: [u16; 4]) -> Option<u64>
     requires { Placed points.now np }
-    ensures { result ≡ volume_or_zero points.now np k }
+    ensures { MatchOption result (volume_or_zero points.now np k ≡ 0)
+        (λ v. (v ≢ 0) × (v ≡ volume_or_zero points.now np k)) }
 {
     if !all_below(k, np) {
-        return 0;
+        return None;
     }
     let v = volume(positions(points, k));
-    if v <= 0 {
-        return 0;
-    }
-    v as u64
+    if v > 0 { Some(v.unsigned_abs()) } else { None }
 }
 
 fn mark(marked: &mut [u8], k: [u16; 4])
@@ -48,31 +37,22 @@ fn mark(marked: &mut [u8], k: [u16; 4])
         × (get_or k 2 0 < length marked.old) × (get_or k 3 0 < length marked.old) }
     ensures { marked.new ≡ with_marks marked.old k }
 {
-    marked[k[0] as usize] = 1;
-    marked[k[1] as usize] = 1;
-    marked[k[2] as usize] = 1;
-    marked[k[3] as usize] = 1;
+    for v in k {
+        marked[usize::from(v)] = 1;
+    }
 }
 
-fn all_marked(marked: &[u8], np: usize) -> bool
-    requires { np ≤ length marked.now }
-    ensures { result ≡ all_marked marked.now np }
+fn all_marked(marked: &[u8]) -> bool
+    ensures { result ≡ all_marked marked.now (length marked.now) }
 {
-    let mut v: usize = 0;
-    while v < np {
-        if marked[v] != 1 {
-            return false;
-        }
-        v += 1;
-    }
-    true
+    marked.iter().all(|&m| m == 1)
 }
 
 fn box_volume(x: u32, y: u32, z: u32) -> u64
     requires { LegalSide x × LegalSide y × LegalSide z }
     ensures { result ≡ 6 * x * y * z }
 {
-    6 * (x as u64) * (y as u64) * (z as u64)
+    6 * u64::from(x) * u64::from(y) * u64::from(z)
 }
 
 // Corner numbers, volumes, their sum, the cell count, and that every point is a corner: one pass over the entries in use.
@@ -82,35 +62,19 @@ pub fn cells_pass(mesh: Mesh, points: &[u32], corners: &[u16]) -> bool
         × Placed points.now mesh.points × Celled corners.now mesh.used }
     ensures { result ≡ cells_pass mesh (tables points.now corners.now []) }
 {
-    let np = mesh.points;
-    let n = mesh.used as usize;
     let mut marked = [0u8; 1024];
     let mut left = box_volume(mesh.x, mesh.y, mesh.z);
-    let mut freed: usize = 0;
-    let mut c: usize = 0;
-    while c < n {
-        let k = four_at(corners, c);
-        let v = volume_or_zero(points, np, k);
-        if v == 0 {
-            if !is_freed(k) {
-                return false;
+    let mut freed = 0;
+    for c in 0..mesh.used {
+        let k = four_at(corners, c as usize);
+        match positive_volume(points, mesh.points, k) {
+            Some(v) if v <= left => {
+                left -= v;
+                mark(&mut marked, k);
             }
-            freed += 1;
-            c += 1;
-            continue;
+            None if is_freed(k) => freed += 1,
+            _ => return false,
         }
-        if left < v {
-            return false;
-        }
-        left -= v;
-        mark(&mut marked, k);
-        c += 1;
     }
-    if left != 0 {
-        return false;
-    }
-    if n - freed != mesh.cells as usize {
-        return false;
-    }
-    all_marked(&marked, np as usize)
+    left == 0 && mesh.used - freed == mesh.cells && all_marked(&marked[..mesh.points as usize])
 }

@@ -7,7 +7,7 @@ ghost use Rattle.mesh.specs.Tables.{tables};
 ghost use Rattle.mesh.specs.Chain.{freed_entry, chain_ok};
 ghost use Rattle.mesh.specs.Inner.{HasCell, Celled};
 
-use mesh::Mesh;
+use mesh::{Mesh, NONE};
 use mesh_tables::{four_at, is_freed};
 
 // Whether entry c is freed, and names nothing but the next on the chain.
@@ -15,17 +15,7 @@ fn is_link(corners: &[u16], neighbours: &[u16], c: usize) -> bool
     requires { HasCell c corners.now × HasCell c neighbours.now }
     ensures { result ≡ freed_entry (tables [] corners.now neighbours.now) c }
 {
-    if !is_freed(four_at(corners, c)) {
-        return false;
-    }
-    let u = four_at(neighbours, c);
-    if u[3] != 65535 {
-        return false;
-    }
-    if u[2] != 65535 {
-        return false;
-    }
-    u[1] == 65535
+    is_freed(four_at(corners, c)) && four_at(neighbours, c)[1..] == [NONE; 3]
 }
 
 // Whether the chain has as many entries as are in use and no cells, each of them freed, and then ends. So it has each freed entry
@@ -35,18 +25,12 @@ pub fn chain_passes(mesh: Mesh, corners: &[u16], neighbours: &[u16]) -> bool
     ensures { result ≡ chain_ok (tables [] corners.now neighbours.now)
         mesh.used (mesh.used - mesh.cells) mesh.chain }
 {
-    let n = mesh.used as usize;
-    let mut at = mesh.chain as usize;
-    let mut found = mesh.cells as usize;
-    while found < n {
-        if n <= at {
+    let mut at = mesh.chain;
+    for _ in mesh.cells..mesh.used {
+        if mesh.used <= at || !is_link(corners, neighbours, at as usize) {
             return false;
         }
-        if !is_link(corners, neighbours, at) {
-            return false;
-        }
-        at = neighbours[4 * at] as usize;
-        found += 1;
+        at = u32::from(neighbours[4 * at as usize]);
     }
-    at == 65535
+    at == u32::from(NONE)
 }

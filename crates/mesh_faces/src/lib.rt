@@ -8,8 +8,8 @@ ghost use Rattle.mesh.specs.Tables.{tables_before};
 ghost use Rattle.mesh.specs.Inner.{Sound, CornersBelow};
 ghost use Rattle.mesh.specs.Inner.Faces.{first, second, third, place_in, odd_order, faces_back, face_test, faces_of};
 
-use mesh::{Cell, Mesh};
-use mesh_tables::{is_freed, load, other_places, point_at};
+use mesh::{Cell, Mesh, NONE};
+use mesh_tables::{Places, is_freed, load, other_places, point_at};
 use mesh_walls::on_one_wall;
 
 // A face of a cell: its place there, its corners, and what lies across.
@@ -34,19 +34,18 @@ fn face_of(cell: usize, entries: Cell, i: usize) -> Face
       across = get_or entries.neighbours i 0;
     } }
 {
-    let k = entries.corners;
-    let u = entries.neighbours;
-    let at = other_places(i);
-    let first = at.first;
-    let second = at.second;
-    let third = at.third;
+    let Places {
+        first,
+        second,
+        third,
+    } = other_places(i);
     Face {
-        cell: cell,
+        cell,
         place: i,
-        p: k[first],
-        q: k[second],
-        r: k[third],
-        across: u[i],
+        p: entries.corners[first],
+        q: entries.corners[second],
+        r: entries.corners[third],
+        across: entries.neighbours[i],
     }
 }
 
@@ -54,10 +53,10 @@ fn face_of(cell: usize, entries: Cell, i: usize) -> Face
 fn place_in(b: [u16; 4], v: u16) -> usize
     ensures { result ≡ place_in b v }
 {
-    let e0 = (b[0] != v) as usize;
-    let e1 = (b[1] != v) as usize;
-    let e2 = (b[2] != v) as usize;
-    let e3 = (b[3] != v) as usize;
+    let e0 = usize::from(b[0] != v);
+    let e1 = usize::from(b[1] != v);
+    let e2 = usize::from(b[2] != v);
+    let e3 = usize::from(b[3] != v);
     e0 * (1 + e1 * (1 + e2 * (1 + 5 * e3)))
 }
 
@@ -65,7 +64,7 @@ fn odd_order(i: usize, k: usize, p: usize, q: usize, r: usize) -> bool
     requires { (i < 4) × (k < 4) }
     ensures { result ≡ odd_order i k p q r }
 {
-    (i + k + ((q < p) as usize) + ((r < p) as usize) + ((r < q) as usize)) % 2 == 1
+    (i + k + usize::from(q < p) + usize::from(r < p) + usize::from(r < q)) % 2 == 1
 }
 
 // The cell across has the face's corners, names its cell back there, and lies on the far side.
@@ -73,24 +72,15 @@ fn faces_back(face: Face, far: Cell) -> bool
     requires { face.place < 4 }
     ensures { result ≡ faces_back face.cell face.place face.p face.q face.r far }
 {
-    let corners = far.corners;
-    let neighbours = far.neighbours;
-    let a = place_in(corners, face.p);
-    let b = place_in(corners, face.q);
-    let d = place_in(corners, face.r);
-    let sum = a + b + d;
-    if sum < 3 {
-        return false;
-    }
-    if 6 < sum {
+    let p = place_in(far.corners, face.p);
+    let q = place_in(far.corners, face.q);
+    let r = place_in(far.corners, face.r);
+    let sum = p + q + r;
+    if !(3..=6).contains(&sum) {
         return false;
     }
     let k = 6 - sum;
-    let back = neighbours[k] as usize;
-    if back != face.cell {
-        return false;
-    }
-    odd_order(face.place, k, a, b, d)
+    usize::from(far.neighbours[k]) == face.cell && odd_order(face.place, k, p, q, r)
 }
 
 fn face_passes(mesh: Mesh, points: &[u32], corners: &[u16], neighbours: &[u16], face: Face) -> bool
@@ -99,17 +89,15 @@ fn face_passes(mesh: Mesh, points: &[u32], corners: &[u16], neighbours: &[u16], 
     ensures { result ≡ face_test mesh.x mesh.y mesh.z (tables_before points corners neighbours) mesh.used
         face.cell face.place face.p face.q face.r face.across }
 {
-    let u = face.across;
-    if u == 65535 {
-        let p = point_at(points, face.p as usize);
-        let q = point_at(points, face.q as usize);
-        let r = point_at(points, face.r as usize);
-        return on_one_wall(mesh.x, mesh.y, mesh.z, p, q, r);
+    if face.across == NONE {
+        let p = point_at(points, usize::from(face.p));
+        let q = point_at(points, usize::from(face.q));
+        let r = point_at(points, usize::from(face.r));
+        on_one_wall(mesh.x, mesh.y, mesh.z, p, q, r)
+    } else {
+        u32::from(face.across) < mesh.used
+            && faces_back(face, load(corners, neighbours, usize::from(face.across)))
     }
-    if mesh.used <= u as u32 {
-        return false;
-    }
-    faces_back(face, load(corners, neighbours, u as usize))
 }
 
 // A freed entry has no faces.
@@ -125,16 +113,13 @@ fn cell_faces_pass(
     ensures { result ≡ faces_of mesh.x mesh.y mesh.z (tables_before points corners neighbours) mesh.used c }
 {
     let cell = load(corners, neighbours, c);
-    let k = cell.corners;
-    if is_freed(k) {
+    if is_freed(cell.corners) {
         return true;
     }
-    let mut i: usize = 0;
-    while i < 4 {
+    for i in 0..4 {
         if !face_passes(mesh, points, corners, neighbours, face_of(c, cell, i)) {
             return false;
         }
-        i += 1;
     }
     true
 }
@@ -146,13 +131,5 @@ pub fn faces_pass(mesh: Mesh, points: &[u32], corners: &[u16], neighbours: &[u16
     ensures { result ≡ all_below mesh.used
         (faces_of mesh.x mesh.y mesh.z (tables_before points corners neighbours) mesh.used) }
 {
-    let n = mesh.used as usize;
-    let mut c: usize = 0;
-    while c < n {
-        if !cell_faces_pass(mesh, points, corners, neighbours, c) {
-            return false;
-        }
-        c += 1;
-    }
-    true
+    (0..mesh.used as usize).all(|c| cell_faces_pass(mesh, points, corners, neighbours, c))
 }

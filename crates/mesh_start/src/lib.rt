@@ -3,13 +3,15 @@
 #![tactic(auto)]
 
 ghost use Rattle.std.specs.Prelude.{◌≡◌, ◌≤◌, ◌<◌, length};
+ghost use Rattle.refusal.specs.Refusal.{refused_by};
 ghost use Rattle.mesh.specs.Tables.{tables};
-ghost use Rattle.mesh.specs.Start.{over, start_points, start_corners, start_neighbours, StartLeaves};
+ghost use Rattle.mesh.specs.Start.{over, start_points, start_corners, start_neighbours, as_started, StartLeaves};
 ghost use Rattle.mesh.specs.Inner.{cell_at, start_refusal_of};
 
-use mesh::{Cell, Mesh, Started};
+use mesh::{Cell, Mesh, NONE};
 use mesh_sizes::{legal_box, too_short};
 use mesh_tables::{clear, store};
+use refusal::Refusal;
 
 // The corner numbers of the started box's six cells.
 const CELLS: [[u16; 4]; 6] = [
@@ -27,10 +29,9 @@ fn start_cell(k: usize) -> Cell
 {
     let next = ((k + 1) % 6) as u16;
     let last = ((k + 5) % 6) as u16;
-    let corners = CELLS[k];
     Cell {
-        corners: corners,
-        neighbours: [65535, next, last, 65535],
+        corners: CELLS[k],
+        neighbours: [NONE, next, last, NONE],
     }
 }
 
@@ -39,13 +40,12 @@ fn write_cells(corners: &mut [u16], neighbours: &mut [u16])
     ensures { (corners.new ≡ over start_corners corners.old)
         × (neighbours.new ≡ over start_neighbours neighbours.old) }
 {
-    let mut k: usize = 0;
-    while k < 6 {
+    for k in 0..6 {
         store(corners, neighbours, k, start_cell(k));
-        k += 1;
     }
 }
 
+#[tactic(auto, unfolding(mesh::specs::Start::start_points))]
 fn start_points(x: u32, y: u32, z: u32) -> [u32; 24]
     ensures { result ≡ start_points x y z }
 {
@@ -54,18 +54,9 @@ fn start_points(x: u32, y: u32, z: u32) -> [u32; 24]
     ]
 }
 
-fn write_points(points: &mut [u32], from: [u32; 24])
-    requires { 24 ≤ length points.old }
-    ensures { points.new ≡ over from points.old }
-{
-    let mut i: usize = 0;
-    while i < 24 {
-        points[i] = from[i];
-        i += 1;
-    }
-}
-
-fn start_refusal(
+// The lengths of the lent tables and of the work area, and the sides.
+#[tactic(auto, unfolding(mesh::specs::Inner::start_refusal_of))]
+fn test_start(
     x: u32,
     y: u32,
     z: u32,
@@ -73,19 +64,20 @@ fn start_refusal(
     corners: usize,
     neighbours: usize,
     work: usize,
-) -> u8
-    ensures { result ≡ start_refusal_of x y z points corners neighbours work }
+) -> Result<(), Refusal>
+    ensures { refused_by result ≡ start_refusal_of x y z points corners neighbours work }
 {
     if too_short(points, corners, neighbours, work) {
-        return 1;
+        Err(Refusal::Short)
+    } else if !legal_box(x, y, z) {
+        Err(Refusal::Box)
+    } else {
+        Ok(())
     }
-    if !legal_box(x, y, z) {
-        return 2;
-    }
-    0
 }
 
 // Starts a mesh in the box x, y, z: the eight corners and six cells.
+#[tactic(auto, using(mesh::proofs::Outcomes::start_fits), unfolding(mesh::specs::Start::start_points))]
 pub fn start(
     x: u32,
     y: u32,
@@ -94,12 +86,12 @@ pub fn start(
     corners: &mut [u16],
     neighbours: &mut [u16],
     work: &mut [u16],
-) -> Started
+) -> Result<Mesh, Refusal>
     ensures { StartLeaves x y z (tables points.old corners.old neighbours.old) work.old
-        result (tables points.new corners.new neighbours.new) work.new }
+        (as_started result) (tables points.new corners.new neighbours.new) work.new }
 {
     clear(work);
-    let refusal = start_refusal(
+    test_start(
         x,
         y,
         z,
@@ -107,19 +99,16 @@ pub fn start(
         corners.len(),
         neighbours.len(),
         work.len(),
-    );
-    if refusal != 0 {
-        return Started::Refused(refusal);
-    }
-    write_points(points, start_points(x, y, z));
+    )?;
+    points[..24].copy_from_slice(&start_points(x, y, z));
     write_cells(corners, neighbours);
-    Started::Accepted(Mesh {
-        x: x,
-        y: y,
-        z: z,
+    Ok(Mesh {
+        x,
+        y,
+        z,
         points: 8,
         cells: 6,
-        chain: 65535,
+        chain: u32::from(NONE),
         used: 6,
     })
 }

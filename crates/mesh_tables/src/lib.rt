@@ -12,7 +12,7 @@ ghost use Rattle.mesh.specs.Inner.Faces.{first, second, third};
 
 use geometry::volume::in_box;
 use geometry::{Position, Tetrahedron};
-use mesh::Cell;
+use mesh::{Cell, NONE};
 
 // Three places of a cell.
 #[derive(Clone, Copy)]
@@ -22,6 +22,7 @@ pub struct Places {
     pub third: usize,
 }
 
+#[tactic(auto, unfolding(mesh::specs::Tables::point_in))]
 pub fn point_at(points: &[u32], k: usize) -> Position
     requires { HasPoint k points.now }
     ensures { result ≡ point_in points.now k }
@@ -38,10 +39,7 @@ pub fn put_point(points: &mut [u32], k: usize, p: Position)
     requires { HasPoint k points.old }
     ensures { points.new ≡ with_point points.old k p }
 {
-    let at = 3 * k;
-    points[at] = p.x;
-    points[at + 1] = p.y;
-    points[at + 2] = p.z;
+    points[3 * k..3 * k + 3].copy_from_slice(&[p.x, p.y, p.z]);
 }
 
 // The first points lie in a box.
@@ -49,15 +47,7 @@ pub fn points_in_box(x: u32, y: u32, z: u32, points: &[u32], count: u32) -> bool
     requires { 3 * count ≤ length points.now }
     ensures { result ≡ all_below count (λ k. in_box x y z (point_in points.now k)) }
 {
-    let n = count as usize;
-    let mut k: usize = 0;
-    while k < n {
-        if !in_box(x, y, z, point_at(points, k)) {
-            return false;
-        }
-        k += 1;
-    }
-    true
+    (0..count as usize).all(|k| in_box(x, y, z, point_at(points, k)))
 }
 
 // The corners of a cell, by their point numbers.
@@ -65,18 +55,15 @@ pub fn positions(points: &[u32], k: [u16; 4]) -> Tetrahedron
     requires { (i : ℕ) → i < 4 → HasPoint (get_or k i 0) points.now }
     ensures { result ≡ positions_of points.now k }
 {
-    let a = point_at(points, k[0] as usize);
-    let b = point_at(points, k[1] as usize);
-    let c = point_at(points, k[2] as usize);
-    let d = point_at(points, k[3] as usize);
     Tetrahedron {
-        a: a,
-        b: b,
-        c: c,
-        d: d,
+        a: point_at(points, usize::from(k[0])),
+        b: point_at(points, usize::from(k[1])),
+        c: point_at(points, usize::from(k[2])),
+        d: point_at(points, usize::from(k[3])),
     }
 }
 
+#[tactic(auto, unfolding(mesh::specs::Inner::four_at))]
 pub fn four_at(s: &[u16], c: usize) -> [u16; 4]
     requires { HasCell c s.now }
     ensures { result ≡ four_at s.now c }
@@ -86,19 +73,11 @@ pub fn four_at(s: &[u16], c: usize) -> [u16; 4]
 }
 
 // Whether the entry with the corners k is freed.
+#[tactic(auto, unfolding(mesh::specs::Inner::Cells::four_freed, arith::specs::Table::all_below))]
 pub fn is_freed(k: [u16; 4]) -> bool
     ensures { result ≡ four_freed k }
 {
-    if k[3] != 65535 {
-        return false;
-    }
-    if k[2] != 65535 {
-        return false;
-    }
-    if k[1] != 65535 {
-        return false;
-    }
-    k[0] == 65535
+    k[0] == NONE && k[1] == NONE && k[2] == NONE && k[3] == NONE
 }
 
 // The places of a cell other than i, rising: those of the corners of face i.
@@ -107,9 +86,9 @@ pub fn other_places(i: usize) -> Places
     ensures { result ≡ record { first = first i; second = second i; third = third i } }
 {
     Places {
-        first: (i == 0) as usize,
-        second: 1 + (i < 2) as usize,
-        third: 3 - (i == 3) as usize,
+        first: usize::from(i == 0),
+        second: 1 + usize::from(i < 2),
+        third: 3 - usize::from(i == 3),
     }
 }
 
@@ -117,22 +96,17 @@ pub fn put_four(s: &mut [u16], c: usize, v: [u16; 4])
     requires { HasCell c s.old }
     ensures { s.new ≡ with_four s.old c v }
 {
-    let at = 4 * c;
-    s[at] = v[0];
-    s[at + 1] = v[1];
-    s[at + 2] = v[2];
-    s[at + 3] = v[3];
+    s[4 * c..4 * c + 4].copy_from_slice(&v);
 }
 
+#[tactic(auto, unfolding(mesh::specs::Inner::cell_at))]
 pub fn load(corners: &[u16], neighbours: &[u16], c: usize) -> Cell
     requires { HasCell c corners.now × HasCell c neighbours.now }
     ensures { result ≡ cell_at corners.now neighbours.now c }
 {
-    let a = four_at(corners, c);
-    let b = four_at(neighbours, c);
     Cell {
-        corners: a,
-        neighbours: b,
+        corners: four_at(corners, c),
+        neighbours: four_at(neighbours, c),
     }
 }
 
@@ -141,19 +115,13 @@ pub fn store(corners: &mut [u16], neighbours: &mut [u16], c: usize, cell: Cell)
     ensures { (corners.new ≡ with_four corners.old c cell.corners)
         × (neighbours.new ≡ with_four neighbours.old c cell.neighbours) }
 {
-    let a = cell.corners;
-    let b = cell.neighbours;
-    put_four(corners, c, a);
-    put_four(neighbours, c, b);
+    put_four(corners, c, cell.corners);
+    put_four(neighbours, c, cell.neighbours);
 }
 
 // Zero over the whole length.
 pub fn clear(s: &mut [u16])
     ensures { s.new ≡ cleared s.old }
 {
-    let mut i = 0;
-    while i < s.len() {
-        s[i] = 0;
-        i += 1;
-    }
+    s.fill(0);
 }

@@ -11,32 +11,17 @@ use geometry::Position;
 fn level_at(level: u32, a: u32, b: u32, c: u32) -> bool
     ensures { result ≡ same_level level a b c }
 {
-    if c != level {
-        return false;
-    }
-    if b != level {
-        return false;
-    }
-    a == level
+    c == level && b == level && a == level
 }
 
+#[tactic(auto, unfolding(mesh::specs::Inner::Faces::on_one_wall))]
 pub fn on_one_wall(x: u32, y: u32, z: u32, p: Position, q: Position, r: Position) -> bool
     ensures { result ≡ on_one_wall x y z p q r }
 {
-    if level_at(0, p.x, q.x, r.x) {
-        return true;
-    }
-    if level_at(0, p.y, q.y, r.y) {
-        return true;
-    }
-    if level_at(0, p.z, q.z, r.z) {
-        return true;
-    }
-    if level_at(x, p.x, q.x, r.x) {
-        return true;
-    }
-    if level_at(y, p.y, q.y, r.y) {
-        return true;
-    }
-    level_at(z, p.z, q.z, r.z)
+    level_at(0, p.x, q.x, r.x)
+        || level_at(0, p.y, q.y, r.y)
+        || level_at(0, p.z, q.z, r.z)
+        || level_at(x, p.x, q.x, r.x)
+        || level_at(y, p.y, q.y, r.y)
+        || level_at(z, p.z, q.z, r.z)
 }

@@ -22,8 +22,8 @@ use Rattle.mesh.specs.Mesh.{IsMesh}
 use Rattle.mesh.specs.Refusal.{mesh_refusal}
 use Rattle.mesh.proofs.Valid.{valid_of, passed, solid}
 use Rattle.nodefile.specs.declared.Header.{Header}
-use Rattle.nodefile.specs.declared.Read.TheVariants.{Nodes, Refused as ReadRefused}
-use Rattle.nodefile.specs.declared.Written.TheVariants.{Bytes, Refused as WriteRefused}
+use Rattle.nodefile.specs.Read.{Nodes, Refused as ReadRefused}
+use Rattle.nodefile.specs.Write.{Bytes, Refused as WriteRefused}
 use Rattle.nodefile.specs.Bytes.{numbers_of, bytes_of}
 use Rattle.nodefile.specs.Read.{trailer, header, distance, wrong_trailer, read_refusal, first_record, records, nodes, read_answer, read_output, ReadLeaves}
 use Rattle.nodefile.specs.Write.{node_count, nodes_of, trailer_of, file_of, header_of, mesh_file, write_refusal, write_answer, write_output, WriteLeaves}

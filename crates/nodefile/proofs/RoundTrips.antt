@@ -18,9 +18,9 @@ use Rattle.mesh.specs.Inner.{Placed}
 use Rattle.mesh.proofs.Checked.{side_yes}
 use Rattle.mesh.specs.Refusal.{mesh_refusal}
 use Rattle.nodefile.specs.declared.Header.{Header}
-use Rattle.nodefile.specs.declared.Read.{Read}
-use Rattle.nodefile.specs.declared.Read.TheVariants.{Nodes}
-use Rattle.nodefile.specs.declared.Written.TheVariants.{Bytes}
+use Rattle.nodefile.specs.Read.{Read}
+use Rattle.nodefile.specs.Read.{Nodes}
+use Rattle.nodefile.specs.Write.{Bytes}
 use Rattle.nodefile.specs.Bytes.{numbers_of, bytes_of}
 use Rattle.nodefile.specs.Read.{trailer, header, distance, read_refusal, first_record, records, nodes, read_answer, read_output, ReadLeaves}
 use Rattle.nodefile.specs.Write.{node_count, nodes_of, trailer_of, file_of, header_of, mesh_file, write_refusal, write_answer, write_output, WriteLeaves}

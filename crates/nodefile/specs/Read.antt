@@ -1,11 +1,20 @@
 -- Reading a node file: document 01, 'Node file'.
-use Rattle.std.specs.Prelude.{ℕ, ◌*◌, ◌-◌, Bool, not, cond, ◌||◌, List, ◌≡◌, ltb, eqb, length, get_or, take, drop}
+use Rattle.std.specs.Prelude.{ℕ, ◌*◌, ◌-◌, Bool, not, cond, ◌||◌, List, ◌≡◌, ltb, eqb, length, get_or, take, drop, Result, Ok, Err}
+use Rattle.refusal.specs.declared.Refusal.{Refusal}
+use Rattle.refusal.specs.Refusal.{refusal_number}
 use Rattle.mesh.specs.Check.{legal_box}
 use Rattle.mesh.specs.Start.{over}
 use Rattle.nodefile.specs.declared.Header.{Header}
-use Rattle.nodefile.specs.declared.Read.{Read}
-use Rattle.nodefile.specs.declared.Read.TheVariants.{Nodes, Refused}
 use Rattle.nodefile.specs.Bytes.{numbers_of}
+
+-- what reading answers: sides and node count, or the refusal's number
+pub data Read : Type 0 where
+  Nodes : Header → Read
+  Refused : ℕ → Read
+
+abbrev pub as_read : Result Header Refusal → Read
+as_read (Ok h) = Nodes h
+as_read (Err e) = Refused (refusal_number e)
 
 -- 'a trailer of 20 bytes': 'X, Y, Z, the count and the distance back in bytes from the trailer's start to the first record'
 unfoldable pub trailer : List ℕ → List ℕ

@@ -1,13 +1,22 @@
 -- Writing a node file: document 01, 'Node file'.
-use Rattle.std.specs.Prelude.{ℕ, ◌*◌, ◌-◌, false, not, cond, List, ◌∷◌, ◌++◌, [], ◌≡◌, ltb, eqb, length, take, drop}
+use Rattle.std.specs.Prelude.{ℕ, ◌*◌, ◌-◌, false, not, cond, List, ◌∷◌, ◌++◌, [], ◌≡◌, ltb, eqb, length, take, drop, Result, Ok, Err}
+use Rattle.refusal.specs.declared.Refusal.{Refusal}
+use Rattle.refusal.specs.Refusal.{refusal_number}
 use Rattle.mesh.specs.declared.Mesh.{Mesh}
 use Rattle.mesh.specs.Tables.{Tables, cleared}
 use Rattle.mesh.specs.Start.{over}
 use Rattle.mesh.specs.Refusal.{mesh_refusal}
 use Rattle.nodefile.specs.declared.Header.{Header}
-use Rattle.nodefile.specs.declared.Written.{Written}
-use Rattle.nodefile.specs.declared.Written.TheVariants.{Bytes, Refused}
 use Rattle.nodefile.specs.Bytes.{bytes_of}
+
+-- what writing answers: the number of bytes, or the refusal's
+pub data Written : Type 0 where
+  Bytes : ℕ → Written
+  Refused : ℕ → Written
+
+abbrev pub as_written : Result ℕ Refusal → Written
+as_written (Ok n) = Bytes n
+as_written (Err e) = Refused (refusal_number e)
 
 -- 'Box corners are not recorded.'
 unfoldable pub node_count : Mesh → ℕ

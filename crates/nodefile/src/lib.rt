@@ -12,15 +12,3 @@ pub struct Header {
     pub z: u32,
     pub count: u32,
 }
-
-#[derive(Clone, Copy)]
-pub enum Read {
-    Nodes(Header),
-    Refused(u8),
-}
-
-#[derive(Clone, Copy)]
-pub enum Written {
-    Bytes(u32),
-    Refused(u8),
-}

@@ -2,49 +2,23 @@
 
 #![tactic(auto)]
 
-ghost use Rattle.std.specs.Prelude.{◌≡◌, ◌+◌, ◌*◌, ◌/◌, ◌%◌, ◌^◌, ◌≤◌, ◌<◌, length};
+ghost use Rattle.std.specs.Prelude.{◌≡◌, ◌*◌, ◌/◌, ◌≤◌, length};
 ghost use Rattle.mesh.specs.Start.{over};
-ghost use Rattle.nodefile.specs.Bytes.{number_at, numbers_of, bytes_of};
+ghost use Rattle.nodefile.specs.Bytes.{numbers_of, bytes_of};
 ghost use Rattle.nodefile.specs.Write.{file_of};
 ghost use Rattle.nodefile.specs.Inner.{FileFits};
 
 use nodefile::Header;
-
-fn wide(byte: u8) -> u32
-    ensures { (result ≡ byte) × (result < 256) }
-{
-    byte as u32
-}
-
-fn number_at(bytes: &[u8], k: usize) -> u32
-    requires { 4 * k + 4 ≤ length bytes.now }
-    ensures { result ≡ number_at bytes.now k }
-{
-    let at = 4 * k;
-    wide(bytes[at])
-        + 256 * wide(bytes[at + 1])
-        + 65536 * wide(bytes[at + 2])
-        + 16777216 * wide(bytes[at + 3])
-}
 
 // The numbers of these bytes, from the front.
 pub fn read_numbers(bytes: &[u8], numbers: &mut [u32])
     requires { length bytes.now / 4 ≤ length numbers.old }
     ensures { numbers.new ≡ over (numbers_of bytes.now) numbers.old }
 {
-    let n = bytes.len() / 4;
-    let mut k: usize = 0;
-    while k < n {
-        numbers[k] = number_at(bytes, k);
-        k += 1;
+    let (fours, _) = bytes.as_chunks::<4>();
+    for (k, four) in fours.iter().enumerate() {
+        numbers[k] = u32::from_le_bytes(*four);
     }
-}
-
-fn byte_of(number: u32, place: usize) -> u8
-    requires { place < 4 }
-    ensures { result ≡ number / 256 ^ place % 256 }
-{
-    ((number >> (8 * place)) % 256) as u8
 }
 
 // The bytes of these numbers, from the front.
@@ -52,11 +26,8 @@ pub fn write_numbers(numbers: &[u32], bytes: &mut [u8])
     requires { 4 * length numbers.now ≤ length bytes.old }
     ensures { bytes.new ≡ over (bytes_of numbers.now) bytes.old }
 {
-    let n = 4 * numbers.len();
-    let mut i: usize = 0;
-    while i < n {
-        bytes[i] = byte_of(numbers[i / 4], i % 4);
-        i += 1;
+    for (k, number) in numbers.iter().enumerate() {
+        bytes[4 * k..4 * k + 4].copy_from_slice(&number.to_le_bytes());
     }
 }
 
@@ -69,7 +40,6 @@ pub fn write_file(head: Header, nodes: &[u32], out: &mut [u8]) -> u32
     write_numbers(nodes, out);
     let distance = 12 * head.count;
     let fields = [head.x, head.y, head.z, head.count, distance];
-    let trailer = distance as usize;
-    write_numbers(&fields, &mut out[trailer..]);
+    write_numbers(&fields, &mut out[distance as usize..]);
     distance + 20
 }

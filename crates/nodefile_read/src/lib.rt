@@ -2,71 +2,65 @@
 
 #![tactic(auto)]
 
-ghost use Rattle.std.specs.Prelude.{◌≡◌, ◌≤◌, length};
-ghost use Rattle.nodefile.specs.Read.{trailer, wrong_trailer, read_refusal, ReadLeaves};
+ghost use Rattle.std.specs.Prelude.{◌≡◌, ◌≤◌, IfOk, length};
+ghost use Rattle.refusal.specs.Refusal.{refused_by};
+ghost use Rattle.nodefile.specs.Read.{header, distance, wrong_trailer, read_refusal, as_read, ReadLeaves};
 
 use mesh_sizes::legal_box;
-use nodefile::{Header, Read};
+use nodefile::Header;
 use nodefile_numbers::read_numbers;
+use refusal::Refusal;
 
-fn read_trailer(file: &[u8]) -> [u32; 5]
+// The length of a trailer, in bytes.
+const TRAILER: usize = 20;
+
+// The sides and the count that a file ends with, and its distance.
+fn read_trailer(file: &[u8]) -> (Header, u32)
     requires { 20 ≤ length file.now }
-    ensures { result ≡ trailer file.now }
+    ensures { (result.0 ≡ header file.now) × (result.1 ≡ distance file.now) }
 {
-    let at = file.len() - 20;
     let mut fields = [0u32; 5];
-    read_numbers(&file[at..], &mut fields);
-    fields
+    read_numbers(&file[file.len() - TRAILER..], &mut fields);
+    let [x, y, z, count, distance] = fields;
+    (Header { x, y, z, count }, distance)
 }
 
 // The count is tested first, so that 12 times it cannot wrap.
+#[tactic(auto, unfolding(nodefile::specs::Read::wrong_trailer))]
 fn wrong_trailer(count: u32, distance: u32, before: usize) -> bool
     ensures { result ≡ wrong_trailer count distance before }
 {
-    if 1016 < count {
-        return true;
-    }
-    if distance != 12 * count {
-        return true;
-    }
-    before < distance as usize
+    count > 1016 || distance != 12 * count || before < distance as usize
 }
 
-fn read_refusal(file: &[u8], room: usize) -> u8
-    ensures { result ≡ read_refusal file.now room }
+// The sides and the count of a file whose nodes can be read into so much room.
+#[tactic(auto, unfolding(nodefile::specs::Read::read_refusal))]
+fn read_header(file: &[u8], room: usize) -> Result<Header, Refusal>
+    ensures refused { refused_by result ≡ read_refusal file.now room }
+    ensures read { IfOk result (λ h. h ≡ header file.now) }
 {
-    if file.len() < 20 {
-        return 9;
+    if file.len() < TRAILER {
+        return Err(Refusal::Trailer);
     }
-    let fields = read_trailer(file);
-    if wrong_trailer(fields[3], fields[4], file.len() - 20) {
-        return 9;
+    let (header, distance) = read_trailer(file);
+    if wrong_trailer(header.count, distance, file.len() - TRAILER) {
+        Err(Refusal::Trailer)
+    } else if !legal_box(header.x, header.y, header.z) {
+        Err(Refusal::Box)
+    } else if room < 3 * header.count as usize {
+        Err(Refusal::NoPlace)
+    } else {
+        Ok(header)
     }
-    if !legal_box(fields[0], fields[1], fields[2]) {
-        return 2;
-    }
-    if room < 3 * fields[3] as usize {
-        return 10;
-    }
-    0
 }
 
 // The sides and the nodes of a file, as they stand.
-pub fn read_nodes(file: &[u8], nodes: &mut [u32]) -> Read
-    ensures { ReadLeaves file.now nodes.old result nodes.new }
+pub fn read_nodes(file: &[u8], nodes: &mut [u32]) -> Result<Header, Refusal>
+    ensures { ReadLeaves file.now nodes.old (as_read result) nodes.new }
 {
-    let refusal = read_refusal(file, nodes.len());
-    if refusal != 0 {
-        return Read::Refused(refusal);
-    }
-    let fields = read_trailer(file);
-    let trailer = file.len() - 20;
-    let first = trailer - fields[4] as usize;
-    read_numbers(&file[first..trailer], nodes);
-    Read::Nodes(Header {
-        x: fields[0],
-        y: fields[1],
-        z: fields[2],
-        count: fields[3],
-    })
+    let header = read_header(file, nodes.len())?;
+    let end = file.len() - TRAILER;
+    let start = end - 12 * header.count as usize;
+    read_numbers(&file[start..end], nodes);
+    Ok(header)
 }

@@ -10,7 +10,7 @@ use Rattle.insphere.specs.Sphere.{sphere_answer}
 use Rattle.mesh.specs.Tables.{Tables, none, corner_at, cell_volume, side, live}
 use Rattle.cavity.specs.Answers.{sphere, handed, says_yes}
 use Rattle.cavity.specs.Cavity.{in_set, base, coplanar, corners_good, cavity_of}
-use Rattle.insertion.specs.declared.Inserted.TheVariants.{Accepted, Refused}
+use Rattle.insertion.specs.Inserted.{Accepted, Refused}
 use Rattle.calls.specs.Calls.{start_build, by_sphere}
 use Rattle.pieces.specs.Piece.{Piece, cell, freed, counts, float, lent, reached, given, expected}
 

@@ -8,7 +8,7 @@ use Rattle.mesh.specs.declared.Cell.{Cell}
 use Rattle.mesh.specs.Tables.{Tables, tables, none}
 use Rattle.mesh.specs.Start.{start_points}
 use Rattle.cavity.specs.Answers.{Answers}
-use Rattle.insertion.specs.declared.Inserted.{Inserted}
+use Rattle.insertion.specs.Inserted.{Inserted}
 use Rattle.insertion.specs.Insertion.{Result, insert_call}
 use Rattle.calls.specs.Calls.{Build, start_build, Call, by_answers, mesh_after}
 

@@ -2,7 +2,7 @@
 use Rattle.std.specs.Prelude.{List, [], ◌∷◌, map, ◌≡◌, replicate}
 use Rattle.mesh.specs.Tables.{none}
 use Rattle.cavity.specs.Answers.{sphere, handed}
-use Rattle.insertion.specs.declared.Inserted.TheVariants.{Accepted}
+use Rattle.insertion.specs.Inserted.{Accepted}
 use Rattle.geometry.specs.Volume.{position}
 use Rattle.pieces.specs.Piece.{Piece, cell, freed, counts, float, all_yes, given, expected}
 

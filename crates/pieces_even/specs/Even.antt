@@ -13,7 +13,7 @@ use Rattle.insphere.specs.Sphere.{zero_float}
 use Rattle.mesh.specs.Tables.{point, live}
 use Rattle.mesh.specs.Check.{same_z}
 use Rattle.cavity.specs.Answers.{Answers, sphere, handed, cell_e, cell_t, says_yes}
-use Rattle.insertion.specs.declared.Inserted.TheVariants.{Accepted}
+use Rattle.insertion.specs.Inserted.{Accepted}
 use Rattle.insertion.specs.Insertion.{insert_call}
 use Rattle.calls.specs.Calls.{Build, start_build, by_sphere, by_answers, mesh_after}
 use Rattle.pieces.specs.Piece.{float, lent}

@@ -6,8 +6,8 @@ use Rattle.geometry.specs.Volume.{position}
 use Rattle.cavity.specs.Answers.{sphere}
 use Rattle.cavity.specs.Cavity.{in_set, base}
 use Rattle.insertion.specs.declared.Report.{Report}
-use Rattle.insertion.specs.declared.Inserted.TheVariants.{Accepted, Refused}
-use Rattle.insertion.specs.declared.Looked.TheVariants.{Reported, Refused as LookRefused}
+use Rattle.insertion.specs.Inserted.{Accepted, Refused}
+use Rattle.insertion.specs.Looked.{Reported, Refused as LookRefused}
 use Rattle.insertion.specs.Insertion.{first_cavity, last_cavity}
 use Rattle.insertion.specs.Look.{LookResult, look_call, marked_call}
 use Rattle.calls.specs.Calls.{Build, start_build, by_answers, mesh_after}

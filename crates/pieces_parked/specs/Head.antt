@@ -3,7 +3,7 @@ use Rattle.std.specs.Prelude.{[], ◌∷◌, ◌≡◌}
 use Rattle.arith.specs.Table.{select_below}
 use Rattle.geometry.specs.declared.Position.{Position}
 use Rattle.geometry.specs.Volume.{position}
-use Rattle.locate.specs.declared.Located.TheVariants.{Cell}
+use Rattle.locate.specs.Locate.{Cell}
 use Rattle.locate.specs.Locate.{holds, sorted_corners, locate_call}
 use Rattle.cavity.specs.Answers.{sphere}
 use Rattle.calls.specs.Calls.{Build, start_build, by_sphere, mesh_after}

@@ -9,11 +9,11 @@ use Rattle.arith.specs.Table.{tabulate}
 use Rattle.arith.proofs.Tables.{tabulate_at, tabulate_length}
 use Rattle.geometry.specs.declared.Position.{Position}
 use Rattle.mesh.specs.declared.Mesh.{Mesh}
-use Rattle.mesh.specs.declared.Started.TheVariants.{Accepted}
+use Rattle.mesh.specs.Start.{Accepted}
 use Rattle.mesh.specs.Tables.{Tables, point_capacity, point_in, point}
 use Rattle.mesh.specs.Mesh.{box_corner, ValidMesh}
 use Rattle.mesh.specs.Start.{StartLeaves}
-use Rattle.insertion.specs.declared.Listed.{Listed}
+use Rattle.insertion.specs.Listed.{Listed}
 use Rattle.insertion.specs.List.{listed_node, listed_count, list_call, ListLeaves}
 use Rattle.calls.specs.Calls.{Build, by_list, record_after_list, accepted_nodes, list_outcome, outcome, mesh_after, accepted_by, Claim}
 use Rattle.calls.proofs.Calls.{every_list_after_a_start}

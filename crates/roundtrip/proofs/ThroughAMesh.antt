@@ -10,7 +10,7 @@ use Rattle.mesh.specs.Tables.{Tables}
 use Rattle.insertion.specs.List.{listed_node, listed_count}
 use Rattle.calls.specs.Calls.{record_after_list, accepted_nodes, Claim}
 use Rattle.nodefile.specs.declared.Header.{Header}
-use Rattle.nodefile.specs.declared.Read.TheVariants.{Nodes}
+use Rattle.nodefile.specs.Read.{Nodes}
 use Rattle.nodefile.specs.Read.{nodes, ReadLeaves}
 use Rattle.nodefile.specs.Write.{node_count, nodes_of}
 use Rattle.nodefile.specs.RoundTrip.{HoldsRead}

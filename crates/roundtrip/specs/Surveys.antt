@@ -3,7 +3,7 @@ use Rattle.std.specs.Prelude.{ℕ, ◌<◌, true, List, ◌≡◌, take}
 use Rattle.geometry.specs.declared.Position.{Position}
 use Rattle.mesh.specs.declared.Mesh.{Mesh}
 use Rattle.mesh.specs.Tables.{Tables, corner_at, IsCell}
-use Rattle.nodefile.specs.declared.Written.TheVariants.{Bytes}
+use Rattle.nodefile.specs.Write.{Bytes}
 use Rattle.merging.specs.Merge.{surveyed, among, MergeLeaves}
 use Rattle.roundtrip.specs.Through.{Built}
 

@@ -2,14 +2,14 @@
 -- refusal.
 use Rattle.std.specs.Prelude.{ℕ, ◌*◌, List, ◌≡◌, take, drop}
 use Rattle.mesh.specs.declared.Mesh.{Mesh}
-use Rattle.mesh.specs.declared.Started.TheVariants.{Accepted}
+use Rattle.mesh.specs.Start.{Accepted}
 use Rattle.mesh.specs.Tables.{Tables}
 use Rattle.mesh.specs.Start.{StartLeaves}
-use Rattle.insertion.specs.declared.Listed.TheVariants.{Ended}
+use Rattle.insertion.specs.Listed.{Ended}
 use Rattle.insertion.specs.List.{ListLeaves}
 use Rattle.nodefile.specs.declared.Header.{Header}
-use Rattle.nodefile.specs.declared.Read.TheVariants.{Nodes}
-use Rattle.nodefile.specs.declared.Written.TheVariants.{Bytes}
+use Rattle.nodefile.specs.Read.{Nodes}
+use Rattle.nodefile.specs.Write.{Bytes}
 use Rattle.nodefile.specs.Read.{first_record, ReadLeaves}
 use Rattle.nodefile.specs.Write.{WriteLeaves}
 use Rattle.nodefile.specs.RoundTrip.{IsBytes}

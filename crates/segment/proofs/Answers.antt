@@ -21,8 +21,8 @@ use Rattle.mesh.specs.Check.{is_mesh}
 use Rattle.mesh.specs.Start.{over}
 use Rattle.mesh.specs.Refusal.{mesh_refusal}
 use Rattle.mesh.proofs.Valid.{valid_of}
-use Rattle.segment.specs.declared.Counted.{Counted}
-use Rattle.segment.specs.declared.Counted.TheVariants.{Count, Refused}
+use Rattle.segment.specs.Call.{Counted}
+use Rattle.segment.specs.Call.{Count, Refused}
 use Rattle.segment.specs.Call.{touches, segment_cells, segment_refusal, segment_answer, segment_output, SegmentLeaves}
 
 -- ---- cell by cell

@@ -21,7 +21,7 @@ use Rattle.mesh.specs.Tables.{Tables, live}
 use Rattle.mesh.specs.Check.{is_mesh}
 use Rattle.mesh.specs.Refusal.{mesh_refusal}
 use Rattle.mesh.proofs.Valid.{valid_of, passed}
-use Rattle.locate.specs.declared.Located.TheVariants.{Cell}
+use Rattle.locate.specs.Locate.{Cell}
 use Rattle.locate.specs.Locate.{holds, first_holder, locate_call}
 use Rattle.locate.proofs.First.{holder_is_first}
 use Rattle.covering.specs.Place.{InBoxAt, holds_at}

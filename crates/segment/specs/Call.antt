@@ -1,6 +1,8 @@
 -- Document 02 §4: the test of a cell, and the call. That the test is right is `touch_is` (proofs/Touch).
-use Rattle.std.specs.Prelude.{ℕ, ◌+◌, ◌*◌, Bool, false, not, ◌&&◌, ◌||◌, cond, List, ◌≡◌, ltb, eqb, ℤ, pos, ◌*ℤ◌, length}
+use Rattle.std.specs.Prelude.{ℕ, ◌+◌, ◌*◌, Bool, false, not, ◌&&◌, ◌||◌, cond, List, ◌≡◌, ltb, eqb, ℤ, pos, ◌*ℤ◌, length, Result, Ok, Err}
 use Rattle.std.specs.Int.Signed.{le_z, lt_z}
+use Rattle.refusal.specs.declared.Refusal.{Refusal}
+use Rattle.refusal.specs.Refusal.{refusal_number}
 use Rattle.arith.specs.Table.{all_below, select_below}
 use Rattle.geometry.specs.declared.Position.{Position}
 use Rattle.geometry.specs.Volume.{in_box}
@@ -8,8 +10,15 @@ use Rattle.mesh.specs.declared.Mesh.{Mesh}
 use Rattle.mesh.specs.Tables.{Tables, side, live, cleared}
 use Rattle.mesh.specs.Start.{over}
 use Rattle.mesh.specs.Refusal.{mesh_refusal}
-use Rattle.segment.specs.declared.Counted.{Counted}
-use Rattle.segment.specs.declared.Counted.TheVariants.{Count, Refused}
+
+-- how many cells are listed, or the refusal's number
+pub data Counted : Type 0 where
+  Count : ℕ → Counted
+  Refused : ℕ → Counted
+
+abbrev pub as_counted : Result ℕ Refusal → Counted
+as_counted (Ok n) = Count n
+as_counted (Err e) = Refused (refusal_number e)
 
 -- ---- forms with the values a and b at the two ends
 

@@ -2,13 +2,6 @@
 
 #![tactic(auto)]
 
-// How many cells are listed, or the refusal's number.
-#[derive(Clone, Copy)]
-pub enum Counted {
-    Count(u32),
-    Refused(u8),
-}
-
 // A product in two words: high counts units of 2^52, low the rest.
 #[derive(Clone, Copy)]
 pub struct Product {

@@ -2,21 +2,20 @@
 
 #![tactic(auto)]
 
-ghost use Rattle.std.specs.Prelude.{cond, [], ◌≡◌, ◌≤◌, ltb, length, take};
+ghost use Rattle.std.specs.Prelude.{cond, [], ◌≡◌, ◌≤◌, ltb, length};
 ghost use Rattle.geometry.specs.Volume.{InRange};
 ghost use Rattle.mesh.specs.Tables.{tables, tables_before};
 ghost use Rattle.mesh.specs.Start.{over};
 ghost use Rattle.mesh.specs.Inner.{Solid};
-ghost use Rattle.segment.specs.Call.{segment_cells, SegmentLeaves};
-ghost use Rattle.segment.specs.declared.Counted.TheVariants.{Count, Refused};
+ghost use Rattle.segment.specs.Call.{Count, Refused, as_counted, segment_cells, SegmentLeaves};
 
 use geometry::Position;
 use geometry::volume::in_box;
 use locate_holding::may_hold;
 use mesh::Mesh;
-use mesh_check::mesh_refusal;
+use mesh_check::test_mesh;
 use mesh_tables::{clear, four_at};
-use segment::Counted;
+use refusal::Refusal;
 use segment_codes::{line_codes, range_codes};
 use segment_test::cell_touches;
 
@@ -36,38 +35,31 @@ fn list_cells(
 {
     let line = line_codes(points, np, a, b);
     let range = range_codes(points, np, a, b);
-    let mut count: usize = 0;
-    let mut c: usize = 0;
-    while c < n {
+    let mut count = 0;
+    for c in 0..n {
         let k = four_at(corners, c);
-        if may_hold(&line, k) {
-            if may_hold(&range, k) {
-                if cell_touches(points, k, a, b) {
-                    found[count] = c as u16;
-                    count += 1;
-                }
-            }
+        if may_hold(&line, k) && may_hold(&range, k) && cell_touches(points, k, a, b) {
+            found[count] = c as u16;
+            count += 1;
         }
-        c += 1;
     }
     count
 }
 
-// The first numbers of those found, where they fit.
-fn put_cells(found: &[u16], count: usize, out: &mut [u16]) -> Counted
-    requires { (count ≤ length found.now) × (count ≤ 4096) }
-    ensures { (result ≡ cond (ltb (length out.old) count) (Refused 10) (Count count))
-        × (out.new ≡ cond (ltb (length out.old) count) out.old (over (take count found.now) out.old)) }
+// The numbers found, where they fit.
+fn put_cells(found: &[u16], out: &mut [u16]) -> Result<u32, Refusal>
+    requires { length found.now ≤ 4096 }
+    ensures { (as_counted result ≡ cond (ltb (length out.old) (length found.now)) (Refused 10) (Count (length found.now)))
+        × (out.new ≡ cond (ltb (length out.old) (length found.now)) out.old (over found.now out.old)) }
 {
-    if out.len() < count {
-        return Counted::Refused(10);
+    if out.len() < found.len() {
+        return Err(Refusal::NoPlace);
     }
-    let mut i: usize = 0;
-    while i < count {
+    // The library's copy would have the archive call memmove, which gantry.h does not ask of the C library.
+    for i in 0..found.len() {
         out[i] = found[i];
-        i += 1;
     }
-    Counted::Count(count as u32)
+    Ok(found.len() as u32)
 }
 
 // The cells that the segment from a to b touches, in rising number. They are found in the work area, so that a refusal leaves the output.
@@ -80,20 +72,14 @@ pub fn segment_cells(
     a: Position,
     b: Position,
     out: &mut [u16],
-) -> Counted
+) -> Result<u32, Refusal>
     ensures { SegmentLeaves mesh (tables_before points corners neighbours) work.old a b out.old
-        result work.new out.new }
+        (as_counted result) work.new out.new }
 {
     clear(work);
-    let refusal = mesh_refusal(mesh, points, corners, neighbours, work.len(), false);
-    if refusal != 0 {
-        return Counted::Refused(refusal);
-    }
-    if !in_box(mesh.x, mesh.y, mesh.z, a) {
-        return Counted::Refused(4);
-    }
-    if !in_box(mesh.x, mesh.y, mesh.z, b) {
-        return Counted::Refused(4);
+    test_mesh(mesh, points, corners, neighbours, work.len(), false)?;
+    if !in_box(mesh.x, mesh.y, mesh.z, a) || !in_box(mesh.x, mesh.y, mesh.z, b) {
+        return Err(Refusal::Outside);
     }
     let count = list_cells(
         points,
@@ -104,7 +90,7 @@ pub fn segment_cells(
         b,
         work,
     );
-    let answer = put_cells(work, count, out);
+    let answer = put_cells(&work[..count], out);
     clear(work);
     answer
 }

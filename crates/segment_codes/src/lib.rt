@@ -10,28 +10,20 @@ ghost use Rattle.segment.specs.Inner.{range_codes, sign_code, line_code, line_co
 
 use geometry::vectors::{cross, difference};
 use geometry::{Position, Vector};
-use locate_holding::side_code;
-use mesh_tables::point_at;
+use locate_holding::{codes_of, side_code};
 
 // Beyond both ends on one side of an axis.
 pub fn range_codes(points: &[u32], np: usize, a: Position, b: Position) -> [u8; 1024]
     requires { Placed points.now np }
     ensures { result ≡ range_codes points.now np a b }
 {
-    let mut codes = [0u8; 1024];
-    let mut v: usize = 0;
-    while v < np {
-        let p = point_at(points, v);
-        codes[v] = side_code(p, a) & side_code(p, b);
-        v += 1;
-    }
-    codes
+    codes_of(points, np, |p| side_code(p, a) & side_code(p, b))
 }
 
 fn sign_code(v: i64) -> u8
     ensures { result ≡ sign_code v }
 {
-    ((v < 0) as u8) + 2 * ((0 < v) as u8)
+    u8::from(v < 0) + 2 * u8::from(0 < v)
 }
 
 // On which side of the line from a along u the point lies, in each plane of two axes.
@@ -48,11 +40,5 @@ pub fn line_codes(points: &[u32], np: usize, a: Position, b: Position) -> [u8; 1
     ensures { result ≡ line_codes points.now np a b }
 {
     let u = difference(a, b);
-    let mut codes = [0u8; 1024];
-    let mut v: usize = 0;
-    while v < np {
-        codes[v] = line_code(a, u, point_at(points, v));
-        v += 1;
-    }
-    codes
+    codes_of(points, np, |p| line_code(a, u, p))
 }

@@ -42,10 +42,7 @@ fn product_at_most(x: u64, y: u64, u: u64, w: u64) -> bool
 {
     let p = product(x, y);
     let q = product(u, w);
-    if p.high != q.high {
-        return p.high < q.high;
-    }
-    p.low <= q.low
+    p.high < q.high || p.high == q.high && p.low <= q.low
 }
 
 // Where the face with the volumes a and b at the ends is entered and that with c and d is left, this is no earlier.
@@ -53,19 +50,16 @@ fn in_order(a: i64, b: i64, c: i64, d: i64) -> bool
     requires { (nat_abs a ≤ 2 ^ 52) × (nat_abs b ≤ 2 ^ 52) × (nat_abs c ≤ 2 ^ 52) × (nat_abs d ≤ 2 ^ 52) }
     ensures { result ≡ in_order a b c d }
 {
-    if 0 <= d {
-        return true;
-    }
-    if c < 0 {
-        return true;
-    }
-    if 0 <= a {
-        return true;
-    }
-    if b < 0 {
-        return true;
-    }
-    product_at_most((0 - a) as u64, (0 - d) as u64, c as u64, b as u64)
+    0 <= d
+        || c < 0
+        || 0 <= a
+        || b < 0
+        || product_at_most(
+            a.unsigned_abs(),
+            d.unsigned_abs(),
+            c.unsigned_abs(),
+            b.unsigned_abs(),
+        )
 }
 
 // The face with the volumes p and q at the ends, and each of the four.
@@ -73,38 +67,22 @@ fn face_meets(p: i64, q: i64, a: Volumes, b: Volumes) -> bool
     requires { (nat_abs p ≤ 2 ^ 52) × (nat_abs q ≤ 2 ^ 52) × ((i : ℕ) → i < 4 → nat_abs (volume_at a i) ≤ 2 ^ 52) × ((i : ℕ) → i < 4 → nat_abs (volume_at b i) ≤ 2 ^ 52) }
     ensures { result ≡ (not (below p && below q) && all_below 4 (λ l. in_order p q (volume_at a l) (volume_at b l))) }
 {
-    if 0 <= p {
-        return true;
-    }
-    if q < 0 {
-        return false;
-    }
-    if !in_order(p, q, a.v3, b.v3) {
-        return false;
-    }
-    if !in_order(p, q, a.v2, b.v2) {
-        return false;
-    }
-    if !in_order(p, q, a.v1, b.v1) {
-        return false;
-    }
-    in_order(p, q, a.v0, b.v0)
+    0 <= p
+        || 0 <= q
+            && in_order(p, q, a.v3, b.v3)
+            && in_order(p, q, a.v2, b.v2)
+            && in_order(p, q, a.v1, b.v1)
+            && in_order(p, q, a.v0, b.v0)
 }
 
 fn volumes_meet(a: Volumes, b: Volumes) -> bool
     requires { ((i : ℕ) → i < 4 → nat_abs (volume_at a i) ≤ 2 ^ 52) × ((i : ℕ) → i < 4 → nat_abs (volume_at b i) ≤ 2 ^ 52) }
     ensures { result ≡ volumes_meet a b }
 {
-    if !face_meets(a.v3, b.v3, a, b) {
-        return false;
-    }
-    if !face_meets(a.v2, b.v2, a, b) {
-        return false;
-    }
-    if !face_meets(a.v1, b.v1, a, b) {
-        return false;
-    }
-    face_meets(a.v0, b.v0, a, b)
+    face_meets(a.v3, b.v3, a, b)
+        && face_meets(a.v2, b.v2, a, b)
+        && face_meets(a.v1, b.v1, a, b)
+        && face_meets(a.v0, b.v0, a, b)
 }
 
 // Whether the segment from a to b touches the cell with the corners k.

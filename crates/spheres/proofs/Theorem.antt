@@ -18,7 +18,7 @@ use Rattle.mesh.proofs.Faces.{mate<}
 use Rattle.mesh.proofs.FaceNumbers.{opposite<}
 use Rattle.cavity.specs.Answers.{sphere, handed}
 use Rattle.insertion.specs.declared.Report.{Report}
-use Rattle.insertion.specs.declared.Inserted.TheVariants.{Accepted}
+use Rattle.insertion.specs.Inserted.{Accepted}
 use Rattle.insertion.specs.Insertion.{first_cavity, last_cavity, cells_made, node_refusal, report_of, inserted_mesh, inserted_tables, insert_call}
 use Rattle.insertion.proofs.Refusals.{NodeFits, node_fits, node_accepted, call_is_node, accepted_node_lem, accepted_call}
 use Rattle.insertion.proofs.Growing.{fits}

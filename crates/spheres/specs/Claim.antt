@@ -5,7 +5,7 @@ use Rattle.mesh.specs.declared.Mesh.{Mesh}
 use Rattle.mesh.specs.Tables.{none, cell_of, opposite, across, corner_at, mate, IsFace}
 use Rattle.cavity.specs.Answers.{sphere, cell_e}
 use Rattle.insertion.specs.declared.Report.{Report}
-use Rattle.insertion.specs.declared.Inserted.TheVariants.{Accepted}
+use Rattle.insertion.specs.Inserted.{Accepted}
 use Rattle.insertion.specs.Insertion.{insert_call}
 use Rattle.calls.specs.Calls.{Build, Call, by_sphere, by_answers, by_marks, by_list, look, outcome}
 use Rattle.spheres.specs.Exact.{Empty}

@@ -10,7 +10,7 @@ ghost use Rattle.cavity.specs.Inner.{set_of};
 ghost use Rattle.star.specs.Inner.{StarInProgress, numbers_of, name_back, FaceDone, Starring, AllStarred};
 
 use cavity::Node;
-use mesh::Cell;
+use mesh::{Cell, NONE};
 use mesh_tables::store;
 use star::Circulator;
 use star_new::{new_cell, new_number};
@@ -20,12 +20,11 @@ fn name_back(neighbours: &mut [u16], u: u16, c: usize, slot: usize)
     requires { (u ≢ none → HasCell u neighbours.old) × (c < 4096) × (slot < 4096) }
     ensures { neighbours.new ≡ name_back neighbours.old u c slot }
 {
-    if u == 65535 {
-        return;
+    if u != NONE {
+        let far = usize::from(u);
+        let at = 4 * far + place_of(neighbours, far, c as u16);
+        neighbours[at] = slot as u16;
     }
-    let far = u as usize;
-    let at = 4 * far + place_of(neighbours, far, c as u16);
-    neighbours[at] = slot as u16;
 }
 
 // The new cell of face k of cell c, in its slot and named back.
@@ -42,8 +41,7 @@ fn put_cell(
     ensures { (corners.new ≡ with_four corners.old slot cell.corners)
         × (neighbours.new ≡ name_back (with_four neighbours.old slot cell.neighbours) (get_or cell.neighbours k 0) c slot) }
 {
-    let u = cell.neighbours;
-    let far = u[k];
+    let far = cell.neighbours[k];
     store(corners, neighbours, slot, cell);
     name_back(neighbours, far, c, slot);
 }
@@ -73,11 +71,10 @@ fn star_face(
         exit: k,
     };
     let slot = new_number(faces, ranks, slots, face);
-    if slot == 65535 {
-        return;
+    if slot != NONE {
+        let cell = new_cell(corners, neighbours, np, n, state, faces, ranks, slots, c, k);
+        put_cell(corners, neighbours, cell, c, k, usize::from(slot));
     }
-    let cell = new_cell(corners, neighbours, np, n, state, faces, ranks, slots, c, k);
-    put_cell(corners, neighbours, cell, c, k, slot as usize);
 }
 
 // The star of the cavity: a new cell for each visible face, while the cavity still stands.
@@ -99,25 +96,20 @@ pub fn star_faces(
         state.now list.now size faces.now ranks.now slots.now) →
         AllStarred b corners.new neighbours.new }
 {
-    let np = node.points;
-    let n = node.used;
-    let count = 4 * size;
-    let mut i: usize = 0;
-    while i < count {
-        let at = i / 4;
-        let c = list[at] as usize;
-        star_face(
-            corners,
-            neighbours,
-            np,
-            n,
-            state,
-            faces,
-            ranks,
-            slots,
-            c,
-            i % 4,
-        );
-        i += 1;
+    for &c in &list[..size] {
+        for k in 0..4 {
+            star_face(
+                corners,
+                neighbours,
+                node.points,
+                node.used,
+                state,
+                faces,
+                ranks,
+                slots,
+                usize::from(c),
+                k,
+            );
+        }
     }
 }

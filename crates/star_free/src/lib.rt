@@ -8,7 +8,7 @@ ghost use Rattle.mesh.specs.Inner.{HasCell, with_four};
 ghost use Rattle.star.specs.Star.{highest_below};
 ghost use Rattle.star.specs.Inner.{Rising, CavityReplaced, freed_link};
 
-use mesh::Cell;
+use mesh::{Cell, NONE};
 use mesh_tables::store;
 
 fn free_cell(corners: &mut [u16], neighbours: &mut [u16], c: usize, next: u16)
@@ -17,8 +17,8 @@ fn free_cell(corners: &mut [u16], neighbours: &mut [u16], c: usize, next: u16)
         × (neighbours.new ≡ with_four neighbours.old c (next ∷ none ∷ none ∷ none ∷ [])) }
 {
     let cell = Cell {
-        corners: [65535, 65535, 65535, 65535],
-        neighbours: [next, 65535, 65535, 65535],
+        corners: [NONE; 4],
+        neighbours: [next, NONE, NONE, NONE],
     };
     store(corners, neighbours, c, cell);
 }
@@ -39,12 +39,9 @@ pub fn free_cells(
         × (result ≡ highest_below s rest n) }
 {
     let mut next = rest;
-    let mut left = size;
-    while 0 < left {
-        let c = list[size - left];
-        free_cell(corners, neighbours, c as usize, next);
+    for &c in &list[..size] {
+        free_cell(corners, neighbours, usize::from(c), next);
         next = c;
-        left -= 1;
     }
     next
 }

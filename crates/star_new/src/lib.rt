@@ -7,7 +7,7 @@ ghost use Rattle.cavity.specs.Inner.{set_of};
 ghost use Rattle.star.specs.Star.{made_across};
 ghost use Rattle.star.specs.Inner.{bit_set, number_at, numbers_of, HasNumber, StarInProgress, VisibleFace, NewCell};
 
-use mesh::Cell;
+use mesh::{Cell, NONE};
 use mesh_tables::four_at;
 use star::Circulator;
 use star_numbers::visible_below;
@@ -25,14 +25,12 @@ pub fn new_number(faces: &[u8], ranks: &[u16], slots: &[u16], g: Circulator) -> 
     requires { HasNumber faces.now ranks.now slots.now g.cell g.exit }
     ensures { result ≡ number_at faces.now ranks.now slots.now g.cell g.exit }
 {
-    let cell = g.cell;
-    let exit = g.exit;
-    let code = faces[cell];
-    if !is_visible(code, exit) {
-        return 65535;
+    let code = faces[g.cell];
+    if is_visible(code, g.exit) {
+        slots[usize::from(ranks[g.cell]) + visible_below(code, g.exit)]
+    } else {
+        NONE
     }
-    let r = ranks[cell] as usize + visible_below(code, exit);
-    slots[r]
 }
 
 // Across face j of the new cell of face k of cell c.
@@ -58,10 +56,11 @@ fn new_neighbour(
         exit: j,
     };
     if j == k {
-        return behind(neighbours, from);
+        behind(neighbours, from)
+    } else {
+        let g = turn(corners, neighbours, state, n, from);
+        new_number(faces, ranks, slots, g)
     }
-    let g = turn(corners, neighbours, state, n, from);
-    new_number(faces, ranks, slots, g)
 }
 
 fn new_neighbours(
@@ -79,6 +78,7 @@ fn new_neighbours(
     ensures { (b : StarInProgress n state.now faces.now ranks.now slots.now corners.now neighbours.now) →
         (j : ℕ) → j < 4 → get_or result j 0 ≡ made_across (numbers_of b) b.standing.was n b.p (set_of n state.now) (4 * c + k) j }
 {
+    // `array::from_fn` was tried: what the calls answered did not reach its proof.
     [
         new_neighbour(corners, neighbours, n, state, faces, ranks, slots, c, k, 0),
         new_neighbour(corners, neighbours, n, state, faces, ranks, slots, c, k, 1),
@@ -104,11 +104,10 @@ pub fn new_cell(
     ensures { (b : StarInProgress n state.now faces.now ranks.now slots.now corners.now neighbours.now) →
         NewCell (numbers_of b) b.standing.was n b.p np (set_of n state.now) (4 * c + k) result }
 {
-    let mut v = four_at(corners, c);
-    v[k] = np as u16;
-    let u = new_neighbours(corners, neighbours, n, state, faces, ranks, slots, c, k);
+    let mut replaced = four_at(corners, c);
+    replaced[k] = np as u16;
     Cell {
-        corners: v,
-        neighbours: u,
+        corners: replaced,
+        neighbours: new_neighbours(corners, neighbours, n, state, faces, ranks, slots, c, k),
     }
 }

@@ -10,6 +10,7 @@ ghost use Rattle.cavity.specs.Inner.{inside, set_of};
 ghost use Rattle.star.specs.Turn as steps;
 ghost use Rattle.star.specs.Inner.{entry_at, state_of, CavityIntact};
 
+use mesh::NONE;
 use star::Circulator;
 
 // The place of v among the four entries of cell c; 3 where it is none of the first three.
@@ -17,27 +18,17 @@ pub fn place_of(table: &[u16], c: usize, v: u16) -> usize
     requires { HasCell c table.now }
     ensures { result ≡ place_of (entry_at table.now) c v }
 {
-    let at = 4 * c;
-    if table[at] == v {
-        return 0;
-    }
-    if table[at + 1] == v {
-        return 1;
-    }
-    if table[at + 2] == v {
-        return 2;
-    }
-    3
+    table[4 * c..4 * c + 3]
+        .iter()
+        .position(|&corner| corner == v)
+        .unwrap_or(3)
 }
 
 fn is_inside(state: &[u8], u: u16) -> bool
     requires { (length state.now ≡ 4096) × (u ≢ none → u < 4096) }
     ensures { result ≡ inside state.now u }
 {
-    if u == 65535 {
-        return false;
-    }
-    0 < state[u as usize]
+    u != NONE && 0 < state[usize::from(u)]
 }
 
 // What lies behind the exit face.
@@ -45,10 +36,7 @@ pub fn behind(neighbours: &[u16], at: Circulator) -> u16
     requires { HasCell at.cell neighbours.now × (at.exit < 4) }
     ensures { result ≡ entry_at neighbours.now at.cell at.exit }
 {
-    let cell = at.cell;
-    let exit = at.exit;
-    let f = 4 * cell + exit;
-    neighbours[f]
+    neighbours[4 * at.cell + at.exit]
 }
 
 // Through the exit face into the cell u behind it. The next exit is opposite to the point that the entry was opposite to.
@@ -60,13 +48,10 @@ fn cross(corners: &[u16], neighbours: &[u16], at: Circulator, u: usize) -> Circu
       exit = place_of (entry_at corners.now) u (entry_at corners.now at.cell at.entry);
     } }
 {
-    let cell = at.cell;
-    let entry = at.entry;
-    let f = 4 * cell + entry;
     Circulator {
         cell: u,
-        entry: place_of(neighbours, u, cell as u16),
-        exit: place_of(corners, u, corners[f]),
+        entry: place_of(neighbours, u, at.cell as u16),
+        exit: place_of(corners, u, corners[4 * at.cell + at.entry]),
     }
 }
 
@@ -84,14 +69,12 @@ pub fn turn(
         state_of result ≡ steps.turn (corner b.was) (across b.was) (mate b.was) (in_set (set_of n state.now)) n (state_of from) }
 {
     let mut at = from;
-    let mut left = n;
-    while 0 < left {
+    for _ in 0..n {
         let u = behind(neighbours, at);
         if !is_inside(state, u) {
             return at;
         }
-        at = cross(corners, neighbours, at, u as usize);
-        left -= 1;
+        at = cross(corners, neighbours, at, usize::from(u));
     }
     at
 }

@@ -1,0 +1,2 @@
+-- The cell that comes first so far, where there is one.
+pub mod Candidates

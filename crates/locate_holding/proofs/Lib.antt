@@ -1,0 +1,2 @@
+-- A code for each point, in an array.
+pub mod Codes

@@ -1,0 +1,2 @@
+-- The tests of two forms as they are made.
+pub mod Tests
