@@ -44,4 +44,5 @@ pub fn find(
     star_room(
         points, corners, neighbours, node, extent, state, list, faces, ranks,
     )
+    .or(Err(Refusal::CellsFull))
 }

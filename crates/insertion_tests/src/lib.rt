@@ -2,13 +2,14 @@
 
 #![tactic(auto)]
 
-ghost use Rattle.std.specs.Prelude.{IfOk, ◌≡◌, ℕ, ◌≤◌, List, length};
+ghost use Rattle.std.specs.Prelude.{◌≡◌, ℕ, ◌≤◌, List, length};
 ghost use Rattle.refusal.specs.Refusal.{refused_by};
 ghost use Rattle.mesh.specs.Tables.{tables, tables_in, tables_before};
 ghost use Rattle.locate.specs.Inner.{side_codes};
 ghost use Rattle.cavity.specs.Inner.{set_of, Enumerated, Inspected};
 ghost use Rattle.star.specs.Inner.{Ranked, Rising};
-ghost use Rattle.insertion.specs.Inner.{some_zero, found_of, PointTests, star_found};
+ghost use Rattle.insertion.specs.Inner.{some_zero, PointTests, star_found};
+ghost use Rattle.insertion_tests.specs.Room.{room_found};
 
 use cavity::{Extent, Node};
 use geometry::Position;
@@ -44,7 +45,7 @@ pub fn point_tests(mesh: Mesh, points: &[u32], codes: &[u8], q: Position) -> Res
     }
 }
 
-// Test 8. The cavity's cells are listed by rising numbers, and the new cells ranked by them.
+// Test 8. The cavity's cells are listed by rising numbers, and the new cells ranked by them. An `Err` has the replacement that finds no room.
 pub fn star_room(
     points: &[u32],
     corners: &[u16],
@@ -55,22 +56,22 @@ pub fn star_room(
     list: &mut [u16],
     faces: &[u8],
     ranks: &mut [u16],
-) -> Result<Replacement, Refusal>
+) -> Result<Replacement, Replacement>
     requires { (node.cells ≤ 4096) × (node.used ≤ 4096) × (length faces.now ≡ 4096) × (length ranks.old ≡ 4096)
         × Enumerated (tables_in points corners neighbours) node.used state.now list.old extent.after
         × Inspected (tables_in points corners neighbours) node.used node.position (set_of node.used state.now) state.now faces.now }
-    ensures { (refused_by result ≡ (star_found (tables_before points corners neighbours) node (set_of node.used state.now) extent).refusal)
-        × IfOk result (λ r. found_of r ≡ star_found (tables_before points corners neighbours) node (set_of node.used state.now) extent)
+    ensures { (room_found result ≡ star_found (tables_before points corners neighbours) node (set_of node.used state.now) extent)
         × Enumerated (tables_before points corners neighbours) node.used state.now list.new extent.after
         × Rising node.used (set_of node.used state.now) list.new extent.after
         × Ranked (tables_before points corners neighbours) node.used node.position (set_of node.used state.now) ranks.new }
 {
     sort_cells(list, extent.after);
     let made = rank_cells(list, extent.after, faces, ranks);
+    let replacement = Replacement { extent, made };
     let capacity = cell_capacity(corners.len(), neighbours.len(), node.work);
     if capacity < node.cells + made {
-        Err(Refusal::CellsFull)
+        Err(replacement)
     } else {
-        Ok(Replacement { extent, made })
+        Ok(replacement)
     }
 }

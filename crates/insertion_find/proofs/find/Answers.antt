@@ -1,13 +1,16 @@
-use Rattle.std.proofs.Common.{◌≡◌, ◌≢◌, ◌∙◌, ℕ, List, Result, Ok, Err, IfOk, sym, refl, subst, arith}
+use Rattle.std.proofs.Common.{◌≡◌, ◌≢◌, ◌∙◌, ℕ, List, Result, Ok, Err, ap, sym, refl, subst, arith}
+use Rattle.std.specs.Result.{result_or}
 use Rattle.refusal.specs.declared.Refusal.{Refusal}
-use Rattle.refusal.specs.Refusal.{refused_by, refusal_number}
+use Rattle.refusal.specs.declared.Refusal.TheVariants.{CellsFull}
+use Rattle.refusal.specs.Refusal.{refusal_number}
 use Rattle.refusal.proofs.Numbers.{number-positive, handed-on}
 use Rattle.mesh.specs.declared.Mesh.{Mesh}
 use Rattle.mesh.specs.Tables.{Tables}
 use Rattle.cavity.specs.declared.Node.{Node}
 use Rattle.cavity.specs.declared.Extent.{Extent}
 use Rattle.insertion.specs.declared.Replacement.{Replacement}
-use Rattle.insertion.specs.Inner.{Found, found_of, as_found, Tested}
+use Rattle.insertion.specs.Inner.{Found, as_found, Tested}
+use Rattle.insertion_tests.specs.Room.{room_found}
 use Rattle.insertion.proofs.Admission.{relisted, stamp_in, stamp_out, placed_points, points_same, refused_early, admitted, answerable, node_used≤, node_cells≤, unheld_node, last_test}
 use Rattle.insertion_find.proofs.find.Goals as goal
 
@@ -16,9 +19,12 @@ module _ {m : Mesh} {t : Tables} {bytes : List ℕ} {d : Node} {st li fa de nu :
   refused : {n k : ℕ} {e : Extent} → n ≡ g.refusal → n ≢ 0 → Tested m t bytes d st li fa de nu record { refusal = n; extent = e; made = k }
   refused h z = record { refusal_is = h ∙ T.refusal_is; starable = λ e. absurd (z e); notes = λ e. absurd (z e) }
 
-  outcome : (r : Result Replacement Refusal) → refused_by r ≡ g.refusal → IfOk r (λ x. found_of x ≡ g) → Tested m t bytes d st li fa de nu (as_found r)
-  outcome (Ok x) n h = subst (Tested m t bytes d st li fa de nu) (sym h) T
-  outcome (Err e) n h = refused n (λ z. omega (arith, number-positive e, z))
+  outcome : (r : Result Replacement Replacement) (o : Result Replacement Refusal) → room_found r ≡ g → o ≡ result_or r (Err CellsFull) →
+      Tested m t bytes d st li fa de nu (as_found o)
+  outcome (Ok x) o h is = subst (λ o. Tested m t bytes d st li fa de nu (as_found o)) (sym is) (subst (Tested m t bytes d st li fa de nu) (sym h) T)
+  outcome (Err x) o h is =
+      subst (λ o. Tested m t bytes d st li fa de nu (as_found o)) (sym is)
+      (refused (ap (λ f. f.refusal) h) (λ (z : ◌≡◌ {A = ℕ} 8 0). omega arith))
 
 pub side_codes-codes-requires : goal.side_codes-codes-requires
 side_codes-codes-requires c = placed_points c.requires.0
@@ -56,5 +62,5 @@ returns c =
     let H = c.find_cavity-extent.ensures in
     let e = c.star_room.ensures in
     outcome
-    (last_test A (relisted H.0 e.2) c.if-extent-eq0.false refl e.3 e.4 (c.star_room.auto.ranks ∙ s.1.ranks) (stamp_out s.0 H.1))
-    _ e.0 e.1
+    (last_test A (relisted H.0 e.1) c.if-extent-eq0.false refl e.2 e.3 (c.star_room.auto.ranks ∙ s.1.ranks) (stamp_out s.0 H.1))
+    _ _ e.0 c.or.ensures

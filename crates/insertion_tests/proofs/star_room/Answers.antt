@@ -1,4 +1,3 @@
-use mathlib.Core.Path.{ap}
 use native.Mathlib.Omega.{arith}
 use Rattle.mesh.specs.Tables.{cell_capacity}
 use Rattle.cavity.proofs.Gathering.{size≤}
@@ -28,7 +27,7 @@ returns-then-capacity-node c =
     let p = c.requires in
     let is = c.sort_cells.ensures in
     let e = c.rank_cells-made.ensures _ _ _ _ p.5 (sorted_cells p.4 p.1 is) in
-    (ap (λ f. f.refusal) (no_room _ _ _ e.0 _ c.cell_capacity-capacity.ensures c.if-capacity-node.true), tt, sorted_lists p.4 p.1 is, sorted_cells p.4 p.1 is, e.1)
+    (no_room _ _ _ e.0 _ c.cell_capacity-capacity.ensures c.if-capacity-node.true, sorted_lists p.4 p.1 is, sorted_cells p.4 p.1 is, e.1)
 
 pub returns-else-capacity-node : goal.returns-else-capacity-node
 unfolding cell_capacity
@@ -36,5 +35,4 @@ returns-else-capacity-node c =
     let p = c.requires in
     let is = c.sort_cells.ensures in
     let e = c.rank_cells-made.ensures _ _ _ _ p.5 (sorted_cells p.4 p.1 is) in
-    let h = has_room _ _ _ e.0 _ c.cell_capacity-capacity.ensures c.if-capacity-node.false in
-    (ap (λ f. f.refusal) h, h, sorted_lists p.4 p.1 is, sorted_cells p.4 p.1 is, e.1)
+    (has_room _ _ _ e.0 _ c.cell_capacity-capacity.ensures c.if-capacity-node.false, sorted_lists p.4 p.1 is, sorted_cells p.4 p.1 is, e.1)
