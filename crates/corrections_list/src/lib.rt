@@ -17,7 +17,7 @@ use mesh_tables::{clear, point_at};
 use refusal::Refusal;
 
 // Over a table with a number out of range: an empty list ends, another stops at its first node.
-fn refuse_nodes(mesh: Mesh, points: &[u32], nodes: &[u32]) -> Insertions
+fn refuse_nodes(mesh: Mesh, points: &[u32], nodes: &[u32]) -> Insertions<Refusal>
     requires { (mesh.points ≤ 1024) × (3 * mesh.points ≤ length points.now) }
     ensures { as_listed (Ok result) ≡ refused_nodes mesh points.now nodes.now }
 {
@@ -42,7 +42,7 @@ pub fn insert_list(
     work: &mut [u16],
     corrections: &mut [i32],
     nodes: &[u32],
-) -> Result<Insertions, Refusal>
+) -> Result<Insertions<Refusal>, Refusal>
     ensures { Leaves (list_with mesh (tables points.old corners.old neighbours.old) corrections.old (length work.old) nodes.now) work.old
         (as_listed result) (tables points.new corners.new neighbours.new) corrections.new work.new }
 {

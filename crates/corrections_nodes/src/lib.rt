@@ -12,6 +12,7 @@ use corrections_node::attempt_node;
 use insertion::Insertions;
 use mesh::Mesh;
 use mesh_tables::point_at;
+use refusal::Refusal;
 
 // The nodes one by one, up to the first that is refused. Mesh and corrections are not checked again: an accepted node leaves a mesh, and all
 // numbers in range. No array is cleared between nodes.
@@ -23,7 +24,7 @@ pub fn insert_nodes(
     corrections: &mut [i32],
     work: usize,
     nodes: &[u32],
-) -> Insertions
+) -> Insertions<Refusal>
     requires { (is_mesh mesh (tables points.old corners.old neighbours.old) work ≡ true) × Standing mesh.points corrections.old
         × (3 * point_capacity (tables points.old corners.old neighbours.old) ≤ length corrections.old) }
     ensures { NodesKeep mesh (tables points.old corners.old neighbours.old) corrections.old work nodes.now

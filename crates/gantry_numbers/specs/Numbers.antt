@@ -1,6 +1,6 @@
 -- The numbers of the C interface (include/gantry.h): what C is given for each case of an answer. The refusal is 0 where the call was
 -- accepted, and a field that a refusal leaves without meaning is 0.
-use Rattle.std.specs.Prelude.{pos}
+use Rattle.std.specs.Prelude.{ℕ, pos, Result, Ok, Err}
 use Rattle.insphere.specs.declared.Sphere.{Sphere}
 use Rattle.insphere.specs.declared.Sphere.TheVariants.{Inside, Outside}
 use Rattle.insphere.specs.Sphere.{Tested}
@@ -35,6 +35,11 @@ use Rattle.gantry_numbers.specs.declared.GantryCorrected.{GantryCorrected}
 use Rattle.gantry_numbers.specs.declared.GantrySphere.{GantrySphere}
 use Rattle.gantry_numbers.specs.declared.GantryRead.{GantryRead}
 use Rattle.gantry_numbers.specs.declared.GantryWritten.{GantryWritten}
+
+-- a result as an answer of the papers: made of its value, or of its refusal's number
+abbrev pub as_answer : {Value R Answer : Type 0} → (Value → Answer) → (ℕ → Answer) → (R → ℕ) → Result Value R → Answer
+as_answer accepted refused number (Ok x) = accepted x
+as_answer accepted refused number (Err e) = refused (number e)
 
 -- of a refused start, since no record goes in
 abbrev pub no_mesh : Mesh

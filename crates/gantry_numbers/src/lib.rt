@@ -3,18 +3,19 @@
 
 #![tactic(auto)]
 
-ghost use Rattle.std.specs.Prelude.{◌≡◌};
-ghost use Rattle.insphere.specs.Sphere.{as_tested};
-ghost use Rattle.mesh.specs.Start.{as_started};
-ghost use Rattle.locate.specs.Locate.{as_located};
-ghost use Rattle.insertion.specs.Inserted.{as_inserted};
-ghost use Rattle.insertion.specs.Listed.{as_listed};
-ghost use Rattle.insertion.specs.Looked.{as_looked};
-ghost use Rattle.corrections.specs.Corrections.{as_corrected};
-ghost use Rattle.segment.specs.Call.{as_counted};
-ghost use Rattle.nodefile.specs.Read.{as_read};
-ghost use Rattle.nodefile.specs.Write.{as_written};
-ghost use Rattle.gantry_numbers.specs.Numbers.{started_of, inserted_of, looked_of, listed_of, located_of, counted_of, corrected_of, tested_of, read_of, written_of};
+ghost use Rattle.std.specs.Prelude.{ℕ, ◌≡◌};
+ghost use Rattle.refusal.specs.Refusal.{refusal_number};
+ghost use Rattle.insphere.specs.Sphere.{Answered, Refused as TestRefused};
+ghost use Rattle.mesh.specs.Start.{Accepted as StartAccepted, Refused as StartRefused};
+ghost use Rattle.locate.specs.Locate.{Cell, Refused as LocateRefused};
+ghost use Rattle.insertion.specs.Inserted.{Accepted, Refused};
+ghost use Rattle.insertion.specs.Listed.{Refused as ListRefused, ended_by};
+ghost use Rattle.insertion.specs.Looked.{Reported, Refused as LookRefused};
+ghost use Rattle.corrections.specs.Corrections.{By, Refused as NotCorrected};
+ghost use Rattle.segment.specs.Call.{Count, Refused as NotCounted};
+ghost use Rattle.nodefile.specs.Read.{Nodes, Refused as ReadRefused};
+ghost use Rattle.nodefile.specs.Write.{Bytes, Refused as WriteRefused};
+ghost use Rattle.gantry_numbers.specs.Numbers.{as_answer, started_of, inserted_of, looked_of, listed_of, located_of, counted_of, corrected_of, tested_of, read_of, written_of};
 
 use corrections::Correction;
 use insertion::{Insertion, Insertions, Report};
@@ -125,11 +126,35 @@ const NO_MESH: Mesh = Mesh {
     used: 0,
 };
 
-impl From<Result<Mesh, Refusal>> for GantryStarted {
-    ghost from_gives = { λ answer r. r ≡ started_of (as_started answer) };
+// A refusal, or the number that stands for it outside.
+pub trait Numbered: Copy {
+    ghost value: { Self → ℕ };
+
+    fn number(self) -> u8
+        ensures { result ≡ value self };
+}
+
+impl Numbered for u8 {
+    ghost value = { λ n. n };
+
+    fn number(self) -> u8 {
+        self
+    }
+}
+
+impl Numbered for Refusal {
+    ghost value = { refusal_number };
+
+    fn number(self) -> u8 {
+        Refusal::number(self)
+    }
+}
+
+impl<R: Numbered> From<Result<Mesh, R>> for GantryStarted {
+    ghost from_gives = { λ answer r. r ≡ started_of (as_answer StartAccepted StartRefused R.value answer) };
 
     #[tactic(auto, unfolding(crate::specs::Numbers::started_of))]
-    fn from(answer: Result<Mesh, Refusal>) -> GantryStarted {
+    fn from(answer: Result<Mesh, R>) -> GantryStarted {
         match answer {
             Ok(mesh) => GantryStarted { refusal: 0, mesh },
             Err(refusal) => GantryStarted {
@@ -142,8 +167,8 @@ impl From<Result<Mesh, Refusal>> for GantryStarted {
 
 // Of a call that was handed the record: a refusal leaves it as it was.
 #[tactic(auto, unfolding(crate::specs::Numbers::inserted_of))]
-pub fn inserted(mesh: Mesh, answer: Result<Insertion, Refusal>) -> GantryInserted
-    ensures { result ≡ inserted_of mesh (as_inserted answer) }
+pub fn inserted<R: Numbered>(mesh: Mesh, answer: Result<Insertion, R>) -> GantryInserted
+    ensures { result ≡ inserted_of mesh (as_answer (λ i. Accepted i.mesh i.report) Refused R.value answer) }
 {
     match answer {
         Ok(Insertion { mesh, report }) => GantryInserted {
@@ -167,11 +192,11 @@ pub fn inserted(mesh: Mesh, answer: Result<Insertion, Refusal>) -> GantryInserte
     }
 }
 
-impl From<Result<Report, Refusal>> for GantryLooked {
-    ghost from_gives = { λ answer r. r ≡ looked_of (as_looked answer) };
+impl<R: Numbered> From<Result<Report, R>> for GantryLooked {
+    ghost from_gives = { λ answer r. r ≡ looked_of (as_answer Reported LookRefused R.value answer) };
 
     #[tactic(auto, unfolding(crate::specs::Numbers::looked_of))]
-    fn from(answer: Result<Report, Refusal>) -> GantryLooked {
+    fn from(answer: Result<Report, R>) -> GantryLooked {
         match answer {
             Ok(seen) => GantryLooked {
                 refusal: 0,
@@ -195,12 +220,12 @@ impl From<Result<Report, Refusal>> for GantryLooked {
 
 // As `inserted`, of a list of nodes.
 #[tactic(auto, unfolding(crate::specs::Numbers::listed_of))]
-pub fn listed(mesh: Mesh, answer: Result<Insertions, Refusal>) -> GantryListed
-    ensures { result ≡ listed_of mesh (as_listed answer) }
+pub fn listed<R: Numbered>(mesh: Mesh, answer: Result<Insertions<R>, R>) -> GantryListed
+    ensures { result ≡ listed_of mesh (as_answer (λ l. ended_by R.value l.mesh l.accepted l.stopped) ListRefused R.value answer) }
 {
     match answer {
         Ok(list) => GantryListed {
-            refusal: list.stopped.map_or(0, Refusal::number),
+            refusal: list.stopped.map_or(0, R::number),
             mesh: list.mesh,
             place: list.accepted,
         },
@@ -212,11 +237,11 @@ pub fn listed(mesh: Mesh, answer: Result<Insertions, Refusal>) -> GantryListed
     }
 }
 
-impl From<Result<u32, Refusal>> for GantryLocated {
-    ghost from_gives = { λ answer r. r ≡ located_of (as_located answer) };
+impl<R: Numbered> From<Result<u32, R>> for GantryLocated {
+    ghost from_gives = { λ answer r. r ≡ located_of (as_answer Cell LocateRefused R.value answer) };
 
     #[tactic(auto, unfolding(crate::specs::Numbers::located_of))]
-    fn from(answer: Result<u32, Refusal>) -> GantryLocated {
+    fn from(answer: Result<u32, R>) -> GantryLocated {
         match answer {
             Ok(cell) => GantryLocated { refusal: 0, cell },
             Err(refusal) => GantryLocated {
@@ -227,11 +252,11 @@ impl From<Result<u32, Refusal>> for GantryLocated {
     }
 }
 
-impl From<Result<u32, Refusal>> for GantryCounted {
-    ghost from_gives = { λ answer r. r ≡ counted_of (as_counted answer) };
+impl<R: Numbered> From<Result<u32, R>> for GantryCounted {
+    ghost from_gives = { λ answer r. r ≡ counted_of (as_answer Count NotCounted R.value answer) };
 
     #[tactic(auto, unfolding(crate::specs::Numbers::counted_of))]
-    fn from(answer: Result<u32, Refusal>) -> GantryCounted {
+    fn from(answer: Result<u32, R>) -> GantryCounted {
         match answer {
             Ok(count) => GantryCounted { refusal: 0, count },
             Err(refusal) => GantryCounted {
@@ -242,11 +267,11 @@ impl From<Result<u32, Refusal>> for GantryCounted {
     }
 }
 
-impl From<Result<Correction, Refusal>> for GantryCorrected {
-    ghost from_gives = { λ answer r. r ≡ corrected_of (as_corrected answer) };
+impl<R: Numbered> From<Result<Correction, R>> for GantryCorrected {
+    ghost from_gives = { λ answer r. r ≡ corrected_of (as_answer By NotCorrected R.value answer) };
 
     #[tactic(auto, unfolding(crate::specs::Numbers::corrected_of))]
-    fn from(answer: Result<Correction, Refusal>) -> GantryCorrected {
+    fn from(answer: Result<Correction, R>) -> GantryCorrected {
         match answer {
             Ok(correction) => GantryCorrected {
                 refusal: 0,
@@ -264,11 +289,11 @@ impl From<Result<Correction, Refusal>> for GantryCorrected {
     }
 }
 
-impl From<Result<Sphere, Refusal>> for GantrySphere {
-    ghost from_gives = { λ answer r. r ≡ tested_of (as_tested answer) };
+impl<R: Numbered> From<Result<Sphere, R>> for GantrySphere {
+    ghost from_gives = { λ answer r. r ≡ tested_of (as_answer Answered TestRefused R.value answer) };
 
     #[tactic(auto, unfolding(crate::specs::Numbers::tested_of, crate::specs::Numbers::sphere_of))]
-    fn from(answer: Result<Sphere, Refusal>) -> GantrySphere {
+    fn from(answer: Result<Sphere, R>) -> GantrySphere {
         match answer {
             Ok(Sphere::Inside(t)) => GantrySphere {
                 refusal: 0,
@@ -289,11 +314,11 @@ impl From<Result<Sphere, Refusal>> for GantrySphere {
     }
 }
 
-impl From<Result<Header, Refusal>> for GantryRead {
-    ghost from_gives = { λ answer r. r ≡ read_of (as_read answer) };
+impl<R: Numbered> From<Result<Header, R>> for GantryRead {
+    ghost from_gives = { λ answer r. r ≡ read_of (as_answer Nodes ReadRefused R.value answer) };
 
     #[tactic(auto, unfolding(crate::specs::Numbers::read_of))]
-    fn from(answer: Result<Header, Refusal>) -> GantryRead {
+    fn from(answer: Result<Header, R>) -> GantryRead {
         match answer {
             Ok(header) => GantryRead {
                 refusal: 0,
@@ -313,11 +338,11 @@ impl From<Result<Header, Refusal>> for GantryRead {
     }
 }
 
-impl From<Result<u32, Refusal>> for GantryWritten {
-    ghost from_gives = { λ answer r. r ≡ written_of (as_written answer) };
+impl<R: Numbered> From<Result<u32, R>> for GantryWritten {
+    ghost from_gives = { λ answer r. r ≡ written_of (as_answer Bytes WriteRefused R.value answer) };
 
     #[tactic(auto, unfolding(crate::specs::Numbers::written_of))]
-    fn from(answer: Result<u32, Refusal>) -> GantryWritten {
+    fn from(answer: Result<u32, R>) -> GantryWritten {
         match answer {
             Ok(bytes) => GantryWritten { refusal: 0, bytes },
             Err(refusal) => GantryWritten {

@@ -12,10 +12,11 @@ pub data Listed : Type 0 where
   Stopped : Mesh → ℕ → ℕ → Listed
   Refused : ℕ → Listed
 
-abbrev pub ended_by : Mesh → ℕ → Option Refusal → Listed
-ended_by m n None = Ended m n
-ended_by m n (Some e) = Stopped m n (refusal_number e)
+-- how a list ended, with this number of what stopped it
+abbrev pub ended_by : {R : Type 0} → (R → ℕ) → Mesh → ℕ → Option R → Listed
+ended_by number m n None = Ended m n
+ended_by number m n (Some e) = Stopped m n (number e)
 
-abbrev pub as_listed : Result Insertions Refusal → Listed
-as_listed (Ok l) = ended_by l.mesh l.accepted l.stopped
+abbrev pub as_listed : Result (Insertions Refusal) Refusal → Listed
+as_listed (Ok l) = ended_by refusal_number l.mesh l.accepted l.stopped
 as_listed (Err e) = Refused (refusal_number e)

@@ -4,7 +4,6 @@
 
 use cavity::Extent;
 use mesh::Mesh;
-use refusal::Refusal;
 
 // Point number, cavity size before and after correction, cells made, and the least T over the cavity before correction.
 #[derive(Clone, Copy)]
@@ -23,12 +22,12 @@ pub struct Insertion {
     pub report: Report,
 }
 
-// The record after a list of nodes, how many went in, and why the next one did not, where the list stopped.
+// The record after a list of nodes, how many went in, and why the next one did not, where the list stopped: R is a refusal, or its number.
 #[derive(Clone, Copy)]
-pub struct Insertions {
+pub struct Insertions<R> {
     pub mesh: Mesh,
     pub accepted: u32,
-    pub stopped: Option<Refusal>,
+    pub stopped: Option<R>,
 }
 
 // What takes place where tests 4 to 8 let a node pass: the extent of its cavity, and how many cells its star makes.

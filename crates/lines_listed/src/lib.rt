@@ -34,7 +34,7 @@ fn write_stopped(place: u32, refusal: Refusal, out: &mut [u8], at: usize) -> usi
 
 // What a list of nodes leaves: the mesh, with a last line where it stopped; or a refusal.
 pub fn write_listed(
-    answer: Result<Insertions, Refusal>,
+    answer: Result<Insertions<Refusal>, Refusal>,
     corners: &[u16],
     neighbours: &[u16],
     out: &mut [u8],

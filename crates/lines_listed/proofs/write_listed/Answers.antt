@@ -11,8 +11,8 @@ use Rattle.lines.proofs.Putting.{then}
 use Rattle.lines.proofs.Answering.{ended_printable, stopped_printable, stopped_room}
 use Rattle.lines_listed.proofs.write_listed.Goals as goal
 
-printable : (m : Mesh) (n : ℕ) (s : Option Refusal) {cs bs : List ℕ} {room : ℕ} → Celled cs (entries_listed (ended_by m n s)) →
-    Celled bs (entries_listed (ended_by m n s)) → longest ≤ room → Celled cs m.used × Celled bs m.used × (length (mesh_text m (tables [] cs bs)) ≤ room)
+printable : (m : Mesh) (n : ℕ) (s : Option Refusal) {cs bs : List ℕ} {room : ℕ} → Celled cs (entries_listed (ended_by refusal_number m n s)) →
+    Celled bs (entries_listed (ended_by refusal_number m n s)) → longest ≤ room → Celled cs m.used × Celled bs m.used × (length (mesh_text m (tables [] cs bs)) ≤ room)
 printable m n None C D h = ended_printable (Ended m n) C D refl h
 printable m n (Some e) C D h = stopped_printable (Stopped m n (refusal_number e)) C D refl h
 
