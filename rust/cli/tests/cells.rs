@@ -1,5 +1,7 @@
 //! Listings written and read back, and what is said of their cells.
 
+use std::sync::atomic::{AtomicUsize, Ordering};
+
 use gantry::{Cell, Mesh, Position};
 use gantry_cli::check::{conditions, is_mesh};
 use gantry_cli::grid::Grid;
@@ -9,9 +11,11 @@ use gantry_cli::text::Reading;
 use plain::nodefile::encode;
 use plain::random::Random;
 
-/// Through a file, as the command reads it.
+/// Through a file of its own, as the command reads it: tests run beside each other.
 fn survey(name: &str, bytes: &[u8]) -> Survey {
-    let path = std::env::temp_dir().join(format!("gantry-cells-{name}-{}", std::process::id()));
+    static SURVEYS: AtomicUsize = AtomicUsize::new(0);
+    let number = SURVEYS.fetch_add(1, Ordering::Relaxed);
+    let path = std::env::temp_dir().join(format!("gantry-cells-{}-{number}", std::process::id()));
     std::fs::write(&path, bytes).expect("a temporary file");
     let mut survey = Survey::read(path.as_os_str(), Reading::default()).expect("a survey");
     std::fs::remove_file(&path).expect("the temporary file");
